@@ -1,0 +1,239 @@
+-- Boards side by side: what is built on the whole is what is built on the parts, one after the other, and so are its targets.
+-- Assumes nothing.
+use mathlib.Core.Path.{_≡_, refl, sym, ap, subst, subst₃, _∙_}
+use mathlib.Core.Logic.{_⊎_, inl, inr, ⊎-elim}
+use mathlib.Core.List.{List, _++_}
+use Prim.Native.Nat.{ℕ, _+_, _-_, _≤_, _<_}
+use native.Mathlib.Omega.{arith}
+use lib.ListN.{length, getD, replicate, length-replicate, replicate-append-replicate, List·getD-append, List·getD-eq-default}
+use lib.Seq.{getD-append-add}
+use lib.Dec.{T}
+use Rattle.tile.specs.Board.{Board}
+use Rattle.tile.specs.Target.{Built, Target}
+use Rattle.tile.specs.Target.Built.{nothing}
+use Rattle.tile.proofs.Tests.{at-most-or-over}
+use Rattle.tile.proofs.Built.{Piece, put, Lies, pairs, melds, later, lay, built-ind, built-as, built-length, put-left, put-right}
+use Rattle.tile.proofs.Built.Piece.{two, three, run}
+
+-- b is a followed by c; no sequence starts in a and ends in c
+pub record Beside (a c b : Board) : Type 0 where
+  pub all : b .kinds ≡ a .kinds + c .kinds
+  pub held-first : (i : ℕ) → i < a .kinds → b .held i ≡ a .held i
+  pub held-after : (i : ℕ) → i < c .kinds → b .held (a .kinds + i) ≡ c .held i
+  pub starts-first : (i : ℕ) → i < a .kinds → b .starts i ≡ a .starts i
+  pub starts-after : (i : ℕ) → i < c .kinds → b .starts (a .kinds + i) ≡ c .starts i
+  pub apart : (i : ℕ) → i < a .kinds → T (a .starts i) → i + 2 < a .kinds
+
+-- p pairs and m melds with the counts t, shared out: some of them with L, before the rest of them with R
+pub record Split (L R : ℕ → ℕ → List ℕ → Type 0) (p m : ℕ) (t : List ℕ) : Type 0 where
+  pub p1 : ℕ
+  pub p2 : ℕ
+  pub m1 : ℕ
+  pub m2 : ℕ
+  pub pairs-all : p1 + p2 ≡ p
+  pub melds-all : m1 + m2 ≡ m
+  pub left : List ℕ
+  pub right : List ℕ
+  pub on-left : L p1 m1 left
+  pub on-right : R p2 m2 right
+  pub counts : t ≡ left ++ right
+
+-- the rest, said in another way
+pub split-as : {L R S : ℕ → ℕ → List ℕ → Type 0} {p m : ℕ} {t : List ℕ} → ((p m : ℕ) (t : List ℕ) → R p m t → S p m t) → Split L R p m t → Split L S p m t
+split-as to x =
+    record {
+      p1 = x .p1;
+      p2 = x .p2;
+      m1 = x .m1;
+      m2 = x .m2;
+      pairs-all = x .pairs-all;
+      melds-all = x .melds-all;
+      left = x .left;
+      right = x .right;
+      on-left = x .on-left;
+      on-right = to (x .p2) (x .m2) (x .right) (x .on-right);
+      counts = x .counts;
+    }
+
+-- a piece more on one side is a piece more
+left-pairs : (q : Piece) (x y : ℕ) → pairs q x + y ≡ pairs q (x + y)
+left-pairs (two i) x y = omega arith
+left-pairs (three i) x y = refl
+left-pairs (run i) x y = refl
+
+left-melds : (q : Piece) (x y : ℕ) → melds q x + y ≡ melds q (x + y)
+left-melds (two i) x y = refl
+left-melds (three i) x y = omega arith
+left-melds (run i) x y = omega arith
+
+right-pairs : (k : ℕ) (q : Piece) (x y : ℕ) → x + pairs q y ≡ pairs (later k q) (x + y)
+right-pairs k (two i) x y = omega arith
+right-pairs k (three i) x y = refl
+right-pairs k (run i) x y = refl
+
+right-melds : (k : ℕ) (q : Piece) (x y : ℕ) → x + melds q y ≡ melds (later k q) (x + y)
+right-melds k (two i) x y = refl
+right-melds k (three i) x y = omega arith
+right-melds k (run i) x y = omega arith
+
+module _ {a c b : Board} (side : Beside a c b) where
+  -- ---- a piece lies on b exactly where it lies on a, or on c and so many kinds later
+
+  lies-left : (q : Piece) → Lies a q → Lies b q
+  lies-left (two i) (l, h) = (omega (arith, side .all), subst T (sym (side .held-first i l)) h)
+  lies-left (three i) (l, h) = (omega (arith, side .all), subst T (sym (side .held-first i l)) h)
+  lies-left (run i) (l, h) = (omega (arith, side .all), subst T (sym (side .starts-first i (omega arith))) h)
+
+  lies-right : (q : Piece) → Lies c q → Lies b (later (a .kinds) q)
+  lies-right (two i) (l, h) = (omega (arith, side .all), subst T (sym (side .held-after i l)) h)
+  lies-right (three i) (l, h) = (omega (arith, side .all), subst T (sym (side .held-after i l)) h)
+  lies-right (run i) (l, h) = (omega (arith, side .all), subst T (sym (side .starts-after i (omega arith))) h)
+
+  -- kind i of b is kind i of a, or a later one of c
+  place : (i : ℕ) → i < b .kinds → (i < a .kinds) ⊎ ((j : ℕ) × (i ≡ a .kinds + j) × (j < c .kinds))
+  place i l =
+      ⊎-elim (λ over. inr (i - a .kinds, omega arith, omega (arith, side .all))) (λ under. inl under) (at-most-or-over (a .kinds) i)
+
+  Where : Piece → Type 0
+  Where q = Lies a q ⊎ ((j : Piece) × (q ≡ later (a .kinds) j) × Lies c j)
+
+  lies-where : (q : Piece) → Lies b q → Where q
+  unfolding Where
+  lies-where (two i) (l, h) =
+      ⊎-elim (λ under. inl (under, subst T (side .held-first i under) h))
+      (λ w. inr (two (w .0), ap two (w .1), (w .2, subst T (ap (b .held) (w .1) ∙ side .held-after (w .0) (w .2)) h))) (place i l)
+  lies-where (three i) (l, h) =
+      ⊎-elim (λ under. inl (under, subst T (side .held-first i under) h))
+      (λ w. inr (three (w .0), ap three (w .1), (w .2, subst T (ap (b .held) (w .1) ∙ side .held-after (w .0) (w .2)) h))) (place i l)
+  lies-where (run i) (l, h) =
+      ⊎-elim (λ under. let s = subst T (side .starts-first i under) h in inl (side .apart i under s, s))
+      (λ w. inr (run (w .0), ap run (w .1), (omega (arith, side .all), subst T (ap (b .starts) (w .1) ∙ side .starts-after (w .0) (w .2)) h)))
+      (place i (omega arith))
+
+  -- ---- what is built on b, in two parts
+
+  abbrev Parts : ℕ → ℕ → List ℕ → Type 0
+  Parts = Split (Built a) (Built c)
+
+  zeros : replicate {A = ℕ} (b .kinds) 0 ≡ replicate (a .kinds) 0 ++ replicate (c .kinds) 0
+  zeros = ap (λ (n : ℕ). replicate n 0) (side .all) ∙ sym (replicate-append-replicate (a .kinds) (c .kinds) 0)
+
+  none : Parts 0 0 (replicate (b .kinds) 0)
+  none =
+      record {
+        p1 = 0;
+        p2 = 0;
+        m1 = 0;
+        m2 = 0;
+        pairs-all = refl;
+        melds-all = refl;
+        left = replicate (a .kinds) 0;
+        right = replicate (c .kinds) 0;
+        on-left = nothing;
+        on-right = nothing;
+        counts = zeros;
+      }
+
+  one-left : {p m : ℕ} {t : List ℕ} (q : Piece) → Lies a q → Parts p m t → Parts (pairs q p) (melds q m) (put t q)
+  one-left q f x =
+      record {
+        p1 = pairs q (x .p1);
+        p2 = x .p2;
+        m1 = melds q (x .m1);
+        m2 = x .m2;
+        pairs-all = left-pairs q (x .p1) (x .p2) ∙ ap (pairs q) (x .pairs-all);
+        melds-all = left-melds q (x .m1) (x .m2) ∙ ap (melds q) (x .melds-all);
+        left = put (x .left) q;
+        right = x .right;
+        on-left = lay q f (x .on-left);
+        on-right = x .on-right;
+        counts = ap (λ (t : List ℕ). put t q) (x .counts) ∙ put-left a (x .left) (x .right) q f (built-length (x .on-left));
+      }
+
+  one-right : {p m : ℕ} {t : List ℕ} (q : Piece) → Lies c q → Parts p m t → Parts (pairs (later (a .kinds) q) p) (melds (later (a .kinds) q) m) (put t (later (a .kinds) q))
+  one-right q f x =
+      let q′ = later (a .kinds) q in
+      record {
+        p1 = x .p1;
+        p2 = pairs q (x .p2);
+        m1 = x .m1;
+        m2 = melds q (x .m2);
+        pairs-all = right-pairs (a .kinds) q (x .p1) (x .p2) ∙ ap (pairs q′) (x .pairs-all);
+        melds-all = right-melds (a .kinds) q (x .m1) (x .m2) ∙ ap (melds q′) (x .melds-all);
+        left = x .left;
+        right = put (x .right) q;
+        on-left = x .on-left;
+        on-right = lay q f (x .on-right);
+        counts = ap (λ (t : List ℕ). put t q′) (x .counts) ∙ put-right (a .kinds) (x .left) (x .right) q (built-length (x .on-left));
+      }
+
+  pub built-split : {p m : ℕ} {t : List ℕ} → Built b p m t → Split (Built a) (Built c) p m t
+  unfolding Where
+  built-split =
+      built-ind Parts none
+      (λ p m t q f r x.
+      ⊎-elim (λ l. one-left q l x)
+      (λ w. subst (λ (q : Piece). Parts (pairs q p) (melds q m) (put t q)) (sym (w .1)) (one-right (w .0) (w .2) x)) (lies-where q f))
+
+  -- ---- and back
+
+  after : {p m : ℕ} {r : List ℕ} → Built c p m r → Built b (0 + p) (0 + m) (replicate (a .kinds) 0 ++ r)
+  after =
+      built-ind (λ p m r. Built b (0 + p) (0 + m) (replicate (a .kinds) 0 ++ r)) (built-as nothing refl refl zeros)
+      (λ p m t q f r x.
+      built-as (lay (later (a .kinds) q) (lies-right q f) x) (sym (right-pairs (a .kinds) q 0 p)) (sym (right-melds (a .kinds) q 0 m))
+      (put-right (a .kinds) (replicate (a .kinds) 0) t q (length-replicate (a .kinds) 0)))
+
+  pub built-join : {p1 m1 p2 m2 : ℕ} {l r : List ℕ} → Built a p1 m1 l → Built c p2 m2 r → Built b (p1 + p2) (m1 + m2) (l ++ r)
+  built-join {p2 = p2} {m2 = m2} {r = r} x y =
+      built-ind (λ p m l. Built b (p + p2) (m + m2) (l ++ r)) (after y)
+      (λ p m t q f s z.
+      built-as (lay q (lies-left q f) z) (sym (left-pairs q p p2)) (sym (left-melds q m m2)) (put-left a t r q f (built-length s))) x
+
+  -- ---- the same of targets
+
+  pub target-split : {p m : ℕ} {t : List ℕ} → Target b p m t → Split (Target a) (Target c) p m t
+  target-split tg =
+      let x = built-split (tg .built) in
+      let few : (i : ℕ) → getD (x .left ++ x .right) i 0 ≤ 4 = subst (λ (t : List ℕ). (i : ℕ) → getD t i 0 ≤ 4) (x .counts) (tg .few) in
+      record {
+        p1 = x .p1;
+        p2 = x .p2;
+        m1 = x .m1;
+        m2 = x .m2;
+        pairs-all = x .pairs-all;
+        melds-all = x .melds-all;
+        left = x .left;
+        right = x .right;
+        on-left =
+            record {
+              built = x .on-left;
+              few =
+                  λ i.
+                  ⊎-elim (λ over. omega (arith, List·getD-eq-default (x .left) 0 over))
+                  (λ under. omega (arith, few i, List·getD-append (x .left) (x .right) 0 i under)) (at-most-or-over (length (x .left)) i);
+            };
+        on-right =
+            record {
+              built = x .on-right;
+              few = λ i. omega (arith, few (length (x .left) + i), getD-append-add (x .left) (x .right) i 0);
+            };
+        counts = x .counts;
+      }
+
+  pub target-join : {p1 m1 p2 m2 : ℕ} {l r : List ℕ} → Target a p1 m1 l → Target c p2 m2 r → Target b (p1 + p2) (m1 + m2) (l ++ r)
+  target-join {l = l} {r = r} x y =
+      record {
+        built = built-join (x .built) (y .built);
+        few =
+            λ i.
+            ⊎-elim
+            (λ over.
+            let e : length l + (i - length l) ≡ i = omega arith in
+            omega (arith, y .few (i - length l), getD-append-add l r (i - length l) 0, ap (λ (j : ℕ). getD (l ++ r) j 0) e))
+            (λ under. omega (arith, x .few i, List·getD-append l r 0 i under)) (at-most-or-over (length l) i);
+      }
+
+  pub target-whole : {p m : ℕ} {t : List ℕ} → Split (Target a) (Target c) p m t → Target b p m t
+  target-whole x =
+      subst₃ (λ (p m : ℕ) (t : List ℕ). Target b p m t) (x .pairs-all) (x .melds-all) (sym (x .counts)) (target-join (x .on-left) (x .on-right))

@@ -1,0 +1,97 @@
+-- Laws of counts: what adding tiles does to a count and to the sum, and how the lack grows.
+-- Assumes nothing.
+use mathlib.Core.Path.{_≡_, refl, ap}
+use mathlib.Core.Logic.{⊎-elim, _≢_}
+use mathlib.Core.List.{List, [], _∷_}
+use Prim.Native.Nat.{ℕ, zero, suc, _+_, _-_, _*_, _≤_, _<_}
+use native.Mathlib.Nat.{le-refl}
+use native.Mathlib.Numerals.{add-one}
+use native.Mathlib.Omega.{arith}
+use lib.ListN.{length, getD, replicate, length-set}
+use lib.Seq.{getD-set-same, getD-set-other}
+use Rattle.tile.specs.Count.{more, sumTo, lackTo}
+use Rattle.tile.proofs.Tests.{at-most-or-over}
+
+-- no count of t is above that of u
+abbrev pub Within : List ℕ → List ℕ → Type 0
+Within t u = (i : ℕ) → getD t i 0 ≤ getD u i 0
+
+-- ---- one kind more often
+
+pub length-more : (t : List ℕ) (i c : ℕ) → length (more t i c) ≡ length t
+unfolding more
+length-more t i c = length-set t i (getD t i 0 + c)
+
+pub more-at : (t : List ℕ) (i c : ℕ) → i < length t → getD (more t i c) i 0 ≡ getD t i 0 + c
+unfolding more
+more-at t i c l = getD-set-same t i (getD t i 0 + c) 0 l
+
+pub more-off : (t : List ℕ) (i c j : ℕ) → j ≢ i → getD (more t i c) j 0 ≡ getD t j 0
+unfolding more
+more-off t i c j n = getD-set-other t i j (getD t i 0 + c) 0 n
+
+pub more-within : (t : List ℕ) (i c : ℕ) → Within t (more t i c)
+unfolding more
+more-within [] i c j = le-refl 0
+more-within (x ∷ t) zero c zero = omega arith
+more-within (x ∷ t) zero c (suc j) = le-refl (getD t j 0)
+more-within (x ∷ t) (suc i) c zero = le-refl x
+more-within (x ∷ t) (suc i) c (suc j) = more-within t i c j
+
+-- ---- the sum
+
+sum-off : (n : ℕ) (t : List ℕ) (i c : ℕ) → n ≤ i → sumTo n (more t i c) ≡ sumTo n t
+unfolding sumTo
+sum-off zero t i c l = refl
+sum-off (suc n) t i c l = omega (arith, sum-off n t i c (omega arith), more-off t i c n (omega arith))
+
+pub sum-more : (n : ℕ) (t : List ℕ) (i c : ℕ) → i < n → i < length t → sumTo n (more t i c) ≡ sumTo n t + c
+unfolding sumTo
+sum-more zero t i c l h = absurd (omega arith)
+sum-more (suc n) t i c l h =
+    ⊎-elim
+    (λ over.
+    let e : i ≡ n = omega arith in
+    omega (arith, sum-off n t i c over, more-at t i c h, ap (λ (k : ℕ). getD (more t i c) k 0) e, ap (λ (k : ℕ). getD t k 0) e))
+    (λ under. omega (arith, sum-more n t i c under h, more-off t i c n (omega arith))) (at-most-or-over n i)
+
+pub zeros-at : (n i : ℕ) → _≡_ {A = ℕ} (getD (replicate n 0) i 0) 0
+zeros-at zero i = refl
+zeros-at (suc n) zero = refl
+zeros-at (suc n) (suc i) = zeros-at n i
+
+pub sum-zeros : (n k : ℕ) → sumTo n (replicate k 0) ≡ 0
+unfolding sumTo
+sum-zeros zero k = refl
+sum-zeros (suc n) k = omega (arith, sum-zeros n k, zeros-at k n)
+
+-- ---- the lack
+
+-- no more is lacked than the target holds, and that is at most four of each kind
+pub lack-sum : (n : ℕ) (t h : List ℕ) → lackTo n t h ≤ sumTo n t
+unfolding lackTo sumTo
+lack-sum zero t h = le-refl 0
+lack-sum (suc n) t h = omega (arith, lack-sum n t h)
+
+pub lack-few : (n : ℕ) (t h : List ℕ) → ((i : ℕ) → getD t i 0 ≤ 4) → lackTo n t h ≤ 4 * n
+unfolding lackTo
+lack-few zero t h few = le-refl 0
+lack-few (suc n) t h few = omega (arith, lack-few n t h few, few n)
+
+-- nothing is lacked exactly where the hand holds the target
+pub lack-none : (n : ℕ) (t h : List ℕ) → ((i : ℕ) → i < n → getD t i 0 ≤ getD h i 0) → lackTo n t h ≡ 0
+unfolding lackTo
+lack-none zero t h w = refl
+lack-none (suc n) t h w = omega (arith, lack-none n t h (λ i l. w i (omega arith)), w n (omega arith))
+
+pub none-lacked : (n : ℕ) (t h : List ℕ) → lackTo n t h ≡ 0 → (i : ℕ) → i < n → getD t i 0 ≤ getD h i 0
+unfolding lackTo
+none-lacked zero t h e i l = absurd (omega arith)
+none-lacked (suc n) t h e i l =
+    ⊎-elim (λ (over : n ≤ i). let k : i ≡ n = omega arith in rw k (omega arith))
+    (λ under. none-lacked n t h (omega arith) i under) (at-most-or-over n i)
+
+-- one kind more, as a loop counts
+pub lack-next : (n : ℕ) (t h : List ℕ) → lackTo (n + 1) t h ≡ lackTo n t h + (getD t n 0 - getD h n 0)
+unfolding lackTo
+lack-next n t h = rw add-one

@@ -1,0 +1,37 @@
+-- How large targets and numbers are, and when the number is 0.
+-- Assumes nothing.
+use mathlib.Core.Path.{_≡_}
+use mathlib.Core.Logic.{_↔_}
+use mathlib.Core.List.{List}
+use Prim.Native.Nat.{ℕ, _+_, _*_, _≤_, _<_}
+use native.Mathlib.Nat.{le-refl}
+use native.Mathlib.Omega.{arith}
+use lib.ListN.{getD}
+use Rattle.tile.specs.Count.{sumTo}
+use Rattle.tile.specs.Board.{Board}
+use Rattle.tile.specs.Target.{Target}
+use Rattle.tile.specs.Answer.{Least}
+use Rattle.tile.proofs.Counts.{lack-sum, lack-none, none-lacked}
+use Rattle.tile.proofs.Built.{built-sum}
+
+-- a target for k melds and a pair has 3k + 2 tiles
+pub target-size : {b : Board} {p m : ℕ} {t : List ℕ} → Target b p m t → sumTo (b .kinds) t ≡ 3 * m + 2 * p
+target-size tg = built-sum (tg .built)
+
+-- the number is at most that
+pub number-at-most : {b : Board} {p m x : ℕ} {h : List ℕ} → Least (b .kinds) (Target b p m) h x → x ≤ 3 * m + 2 * p
+number-at-most {b} {h = h} least =
+    let (t, tg, e) = least .some in
+    omega (arith, target-size tg, lack-sum (b .kinds) t h)
+
+module _ {n : ℕ} {G : List ℕ → Type 0} {h : List ℕ} where
+  -- the number is 0 exactly when the hand holds a target
+  pub number-zero : Least n G h 0 ↔ ((t : List ℕ) × G t × ((i : ℕ) → i < n → getD t i 0 ≤ getD h i 0))
+  number-zero = (
+    λ least. let (t, g, e) = least .some in (t, g, none-lacked n t h e),
+    λ (t, g, w). record { some = (t, g, lack-none n t h w); none-fewer = λ u k. omega arith },
+  )
+
+  -- and so it is for a hand that is itself a target
+  pub target-zero : G h → Least n G h 0
+  target-zero g = number-zero .1 (h, g, λ i l. le-refl (getD h i 0))
