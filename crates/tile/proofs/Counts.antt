@@ -7,14 +7,21 @@ use Prim.Native.Nat.{ℕ, zero, suc, _+_, _-_, _*_, _≤_, _<_}
 use native.Mathlib.Nat.{le-refl}
 use native.Mathlib.Numerals.{add-one}
 use native.Mathlib.Omega.{arith}
-use lib.ListN.{length, getD, replicate, length-set}
+use lib.ListN.{length, getD, replicate, length-set, List·getD-eq-default}
 use lib.Seq.{getD-set-same, getD-set-other}
+use lib.Dec.{T, leb, leb→le}
 use Rattle.tile.specs.Count.{more, sumTo, lackTo}
-use Rattle.tile.proofs.Tests.{at-most-or-over}
+use Rattle.tile.proofs.Tests.{at-most-or-over, allTo, all-to}
 
 -- no count of t is above that of u
 abbrev pub Within : List ℕ → List ℕ → Type 0
 Within t u = (i : ℕ) → getD t i 0 ≤ getD u i 0
+
+-- at most four of each kind, by a computed test
+pub few-by : (t : List ℕ) → T (allTo (length t) (λ i. leb (getD t i 0) 4)) → (i : ℕ) → getD t i 0 ≤ 4
+few-by t h i =
+    ⊎-elim (λ over. omega (arith, List·getD-eq-default t 0 over))
+    (λ under. leb→le (getD t i 0) 4 (all-to (length t) (λ i. leb (getD t i 0) 4) h i under)) (at-most-or-over (length t) i)
 
 -- ---- one kind more often
 
@@ -65,6 +72,22 @@ unfolding sumTo
 sum-zeros zero k = refl
 sum-zeros (suc n) k = omega (arith, sum-zeros n k, zeros-at k n)
 
+-- what holds no more of any kind holds no more in all; and where it holds as many in all, it holds the same
+module _ (t h : List ℕ) where
+  sum-within : (n : ℕ) → ((i : ℕ) → i < n → getD t i 0 ≤ getD h i 0) → sumTo n t ≤ sumTo n h
+  unfolding sumTo
+  sum-within zero w = le-refl 0
+  sum-within (suc n) w = omega (arith, sum-within n (λ i l. w i (omega arith)), w n (omega arith))
+
+  pub sum-same : (n : ℕ) → ((i : ℕ) → i < n → getD t i 0 ≤ getD h i 0) → sumTo n h ≤ sumTo n t → (i : ℕ) → i < n → getD t i 0 ≡ getD h i 0
+  unfolding sumTo
+  sum-same zero w g i l = absurd (omega arith)
+  sum-same (suc n) w g i l =
+      let below = sum-within n (λ i l. w i (omega arith)) in
+      let here = w n (omega arith) in
+      ⊎-elim (λ (over : n ≤ i). let e : i ≡ n = omega arith in rw e (omega arith))
+      (λ under. sum-same n (λ i l. w i (omega arith)) (omega arith) i under) (at-most-or-over n i)
+
 -- ---- the lack
 
 -- no more is lacked than the target holds, and that is at most four of each kind
@@ -90,6 +113,14 @@ none-lacked zero t h e i l = absurd (omega arith)
 none-lacked (suc n) t h e i l =
     ⊎-elim (λ (over : n ≤ i). let k : i ≡ n = omega arith in rw k (omega arith))
     (λ under. none-lacked n t h (omega arith) i under) (at-most-or-over n i)
+
+-- and where something is lacked, it is lacked of some kind
+pub lack-some : (n : ℕ) (t h : List ℕ) → 0 < lackTo n t h → (i : ℕ) × (i < n) × (getD h i 0 < getD t i 0)
+unfolding lackTo
+lack-some zero t h l = absurd (omega arith)
+lack-some (suc n) t h l =
+    ⊎-elim (λ over. let (i, m, g) = lack-some n t h (omega arith) in (i, omega arith, g)) (λ under. (n, omega arith, under))
+    (at-most-or-over (getD t n 0) (getD h n 0))
 
 -- one kind more, as a loop counts
 pub lack-next : (n : ℕ) (t h : List ℕ) → lackTo (n + 1) t h ≡ lackTo n t h + (getD t n 0 - getD h n 0)

@@ -8,5 +8,7 @@ pub mod Beside
 -- theorems about the definitions
 pub mod Unique
 pub mod Size
+pub mod Sense
 pub mod Whole
 pub mod Narrow
+mod Example

@@ -108,6 +108,14 @@ module _ (test : ℕ → Bool) where
 pub exactly-as : {n s : ℕ} {P Q : ℕ → Type 0} → ((i : ℕ) → P i → Q i) → ((i : ℕ) → Q i → P i) → Exactly n s P → Exactly n s Q
 exactly-as to fro e = record { small = e .small; sound = λ i l a. to i (e .sound i l a); complete = λ i l q. e .complete i l (fro i q) }
 
+-- the empty set has none
+pub has-none : (i : ℕ) → Has 0 i → ⊥
+unfolding Has
+has-none i e = omega (arith, div-eq-of-lt (pow-pos i))
+
+pub exactly-none : {n : ℕ} {P : ℕ → Type 0} → ((i : ℕ) → i < n → P i → ⊥) → Exactly n 0 P
+exactly-none {n} none = record { small = pow-pos n; sound = λ i l e. absurd (has-none i e); complete = λ i l q. absurd (none i l q) }
+
 -- the kinds of which t holds more than h
 pub exactly-more : (n : ℕ) (t h : List ℕ) → Exactly n (moreTo n t h) (λ i. getD h i 0 < getD t i 0)
 unfolding moreTo

@@ -7,11 +7,12 @@ use Prim.Native.Nat.{ℕ, _+_, _*_, _≤_, _<_}
 use native.Mathlib.Nat.{le-refl}
 use native.Mathlib.Omega.{arith}
 use lib.ListN.{getD}
-use Rattle.tile.specs.Count.{sumTo}
+use Rattle.tile.specs.Count.{sumTo, lackTo}
 use Rattle.tile.specs.Board.{Board}
 use Rattle.tile.specs.Target.{Target}
-use Rattle.tile.specs.Answer.{Least}
-use Rattle.tile.proofs.Counts.{lack-sum, lack-none, none-lacked}
+use Rattle.tile.specs.Answer.{Least, Answer}
+use Rattle.tile.proofs.Counts.{sum-same, lack-sum, lack-none, none-lacked}
+use Rattle.tile.proofs.Sets.{exactly-none}
 use Rattle.tile.proofs.Built.{built-sum}
 
 -- a target for k melds and a pair has 3k + 2 tiles
@@ -35,3 +36,15 @@ module _ {n : ℕ} {G : List ℕ → Type 0} {h : List ℕ} where
   -- and so it is for a hand that is itself a target
   pub target-zero : G h → Least n G h 0
   target-zero g = number-zero .1 (h, g, λ i l. le-refl (getD h i 0))
+
+-- a hand that is itself a target: number 0, nothing necessary, nothing unnecessary
+pub target-answer : {b : Board} {p m : ℕ} {h : List ℕ} → Target b p m h → Answer (b .kinds) (Target b p m) h 0 0 0
+target-answer {b} {p} {m} {h} tg =
+    record {
+      number = target-zero tg;
+      necessary = exactly-none (λ i l (t, g, e, more). omega (arith, same t g e i l));
+      unnecessary = exactly-none (λ i l (t, g, e, fewer). omega (arith, same t g e i l));
+    }
+  where
+    same : (t : List ℕ) → Target b p m t → lackTo (b .kinds) t h ≡ 0 → (i : ℕ) → i < b .kinds → getD t i 0 ≡ getD h i 0
+    same t g e = sum-same t h (b .kinds) (none-lacked (b .kinds) t h e) (omega (arith, target-size tg, target-size g))

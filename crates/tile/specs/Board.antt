@@ -10,6 +10,10 @@ pub record Board : Type 0 where
   pub held : ℕ → Bool
   pub starts : ℕ → Bool
 
+-- kind i is on the board and may be held
+abbrev pub mayHold : Board → ℕ → Bool
+mayHold b i = ltb i (b .kinds) && b .held i
+
 -- nine ranks in order: a sequence starts at index 0 to 6
 abbrev pub ranks : Board
 ranks = record { kinds = 9; held = λ i. true; starts = λ i. ltb i 7 }

@@ -4,7 +4,7 @@ use mathlib.Core.Bool.{Bool, true, false}
 use mathlib.Core.List.{List, [], _∷_}
 use Prim.Native.Nat.{ℕ, _+_}
 use Rattle.tile.specs.Board.{Board, ranks, honours, ends, whole4, whole3}
-use Rattle.tile.specs.declared.Place.{Place}
+use Rattle.tile.specs.declared.suits.Place.{Place}
 
 -- the suits m, p, s, z of the four-player game (false) and of the three-player game (true)
 abbrev pub suitsOf : Bool → List Board
