@@ -10,5 +10,6 @@ pub mod Unique
 pub mod Size
 pub mod Sense
 pub mod Whole
+pub mod Places
 pub mod Narrow
 mod Example
