@@ -38,9 +38,10 @@ pub record Split (L R : ℕ → ℕ → List ℕ → Type 0) (p m : ℕ) (t : Li
   pub on-right : R p2 m2 right
   pub counts : t ≡ left ++ right
 
--- the rest, said in another way
-pub split-as : {L R S : ℕ → ℕ → List ℕ → Type 0} {p m : ℕ} {t : List ℕ} → ((p m : ℕ) (t : List ℕ) → R p m t → S p m t) → Split L R p m t → Split L S p m t
-split-as to x =
+-- the same parts, with something else known of them
+pub split-with : {L R L′ R′ : ℕ → ℕ → List ℕ → Type 0} {p m : ℕ} {t : List ℕ} (x : Split L R p m t) → L′ (x .p1) (x .m1) (x .left)
+    → R′ (x .p2) (x .m2) (x .right) → Split L′ R′ p m t
+split-with x l r =
     record {
       p1 = x .p1;
       p2 = x .p2;
@@ -50,8 +51,8 @@ split-as to x =
       melds-all = x .melds-all;
       left = x .left;
       right = x .right;
-      on-left = x .on-left;
-      on-right = to (x .p2) (x .m2) (x .right) (x .on-right);
+      on-left = l;
+      on-right = r;
       counts = x .counts;
     }
 
@@ -94,20 +95,22 @@ module _ {a c b : Board} (side : Beside a c b) where
   place i l =
       ⊎-elim (λ over. inr (i - a .kinds, omega arith, omega (arith, side .all))) (λ under. inl under) (at-most-or-over (a .kinds) i)
 
+  held-where : (i : ℕ) → i < b .kinds → T (b .held i)
+      → ((i < a .kinds) × T (a .held i)) ⊎ ((j : ℕ) × (i ≡ a .kinds + j) × ((j < c .kinds) × T (c .held j)))
+  held-where i l h =
+      ⊎-elim (λ under. inl (under, subst T (side .held-first i under) h))
+      (λ (j, e, less). inr (j, e, (less, subst T (ap (b .held) e ∙ side .held-after j less) h))) (place i l)
+
   Where : Piece → Type 0
   Where q = Lies a q ⊎ ((j : Piece) × (q ≡ later (a .kinds) j) × Lies c j)
 
   lies-where : (q : Piece) → Lies b q → Where q
   unfolding Where
-  lies-where (two i) (l, h) =
-      ⊎-elim (λ under. inl (under, subst T (side .held-first i under) h))
-      (λ w. inr (two (w .0), ap two (w .1), (w .2, subst T (ap (b .held) (w .1) ∙ side .held-after (w .0) (w .2)) h))) (place i l)
-  lies-where (three i) (l, h) =
-      ⊎-elim (λ under. inl (under, subst T (side .held-first i under) h))
-      (λ w. inr (three (w .0), ap three (w .1), (w .2, subst T (ap (b .held) (w .1) ∙ side .held-after (w .0) (w .2)) h))) (place i l)
+  lies-where (two i) (l, h) = ⊎-elim (λ on-a. inl on-a) (λ (j, e, on-c). inr (two j, ap two e, on-c)) (held-where i l h)
+  lies-where (three i) (l, h) = ⊎-elim (λ on-a. inl on-a) (λ (j, e, on-c). inr (three j, ap three e, on-c)) (held-where i l h)
   lies-where (run i) (l, h) =
       ⊎-elim (λ under. let s = subst T (side .starts-first i under) h in inl (side .apart i under s, s))
-      (λ w. inr (run (w .0), ap run (w .1), (omega (arith, side .all), subst T (ap (b .starts) (w .1) ∙ side .starts-after (w .0) (w .2)) h)))
+      (λ (j, e, less). inr (run j, ap run e, (omega (arith, side .all), subst T (ap (b .starts) e ∙ side .starts-after j less) h)))
       (place i (omega arith))
 
   -- ---- what is built on b, in two parts
@@ -196,30 +199,15 @@ module _ {a c b : Board} (side : Beside a c b) where
   target-split tg =
       let x = built-split (tg .built) in
       let few : (i : ℕ) → getD (x .left ++ x .right) i 0 ≤ 4 = subst (λ (t : List ℕ). (i : ℕ) → getD t i 0 ≤ 4) (x .counts) (tg .few) in
-      record {
-        p1 = x .p1;
-        p2 = x .p2;
-        m1 = x .m1;
-        m2 = x .m2;
-        pairs-all = x .pairs-all;
-        melds-all = x .melds-all;
-        left = x .left;
-        right = x .right;
-        on-left =
-            record {
-              built = x .on-left;
-              few =
-                  λ i.
-                  ⊎-elim (λ over. omega (arith, List·getD-eq-default (x .left) 0 over))
-                  (λ under. omega (arith, few i, List·getD-append (x .left) (x .right) 0 i under)) (at-most-or-over (length (x .left)) i);
-            };
-        on-right =
-            record {
-              built = x .on-right;
-              few = λ i. omega (arith, few (length (x .left) + i), getD-append-add (x .left) (x .right) i 0);
-            };
-        counts = x .counts;
-      }
+      split-with x
+      (record {
+        built = x .on-left;
+        few =
+            λ i.
+            ⊎-elim (λ over. omega (arith, List·getD-eq-default (x .left) 0 over))
+            (λ under. omega (arith, few i, List·getD-append (x .left) (x .right) 0 i under)) (at-most-or-over (length (x .left)) i);
+      })
+      (record { built = x .on-right; few = λ i. omega (arith, few (length (x .left) + i), getD-append-add (x .left) (x .right) i 0) })
 
   pub target-join : {p1 m1 p2 m2 : ℕ} {l r : List ℕ} → Target a p1 m1 l → Target c p2 m2 r → Target b (p1 + p2) (m1 + m2) (l ++ r)
   target-join {l = l} {r = r} x y =

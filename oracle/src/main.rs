@@ -1,0 +1,105 @@
+//! The commands of the oracle; the README lists them.
+
+use std::env;
+use std::io::{self, Read, Write};
+use std::process::ExitCode;
+
+use oracle::compare::{Sizes, compare};
+use oracle::hand::Hand;
+use oracle::judge::print_counts;
+use oracle::options::Options;
+use oracle::record::answers;
+use oracle::show::show;
+use oracle::{judge, make, merged};
+
+const USAGE: &str = "usage:
+  oracle answer < hands > answers
+  oracle judge < hands > answers
+  oracle show < hands
+  oracle compare [--seed S] [--suits N] [--hands N] [--all-suits]
+  oracle targets
+  oracle make table > hands
+  oracle make hands [--seed S] [--count N] [--broken BYTES] > hands";
+
+fn main() -> ExitCode {
+    let mut words = env::args().skip(1);
+    let command = words.next().unwrap_or_default();
+    match run(&command, words) {
+        Ok(true) => ExitCode::SUCCESS,
+        Ok(false) => ExitCode::from(1),
+        Err(message) => {
+            eprintln!("{message}\n{USAGE}");
+            ExitCode::from(2)
+        }
+    }
+}
+
+/// Says whether the command found nothing wrong.
+fn run(command: &str, mut words: impl Iterator<Item = String>) -> Result<bool, String> {
+    match command {
+        "answer" => through(words, |input| answers(input, merged::answer)),
+        "judge" => through(words, |input| answers(input, judge::answer)),
+        "show" => through(words, |input| show(input).into_bytes()),
+        "compare" => run_compare(Options::new(words)),
+        "targets" => {
+            Options::new(words).end()?;
+            print_counts();
+            Ok(true)
+        }
+        "make" => {
+            let what = words.next().unwrap_or_default();
+            run_make(&what, Options::new(words))
+        }
+        other => Err(format!("not understood: {other}")),
+    }
+}
+
+/// Standard input through a function to standard output.
+fn through(
+    words: impl Iterator<Item = String>,
+    function: impl Fn(&[u8]) -> Vec<u8>,
+) -> Result<bool, String> {
+    Options::new(words).end()?;
+    let mut input = Vec::new();
+    io::stdin()
+        .read_to_end(&mut input)
+        .map_err(|error| error.to_string())?;
+    write(&function(&input))
+}
+
+fn run_compare(mut options: Options) -> Result<bool, String> {
+    let sizes = Sizes {
+        seed: options.number("--seed", 1)?,
+        suits: options.number("--suits", 40_000)?,
+        hands: options.number("--hands", 20_000)?,
+        all_suits: options.flag("--all-suits"),
+    };
+    options.end()?;
+    Ok(compare(&sizes))
+}
+
+fn run_make(what: &str, mut options: Options) -> Result<bool, String> {
+    let (hands, broken) = match what {
+        "table" => (make::table(), 0),
+        "hands" => {
+            let seed = options.number("--seed", 1)?;
+            let count = options.number("--count", 4_000)?;
+            let broken = options.number("--broken", 0)?;
+            if broken > 35 {
+                return Err("a broken piece has at most 35 bytes".into());
+            }
+            (make::hands(seed, count as usize), broken)
+        }
+        other => return Err(format!("not understood: make {other}")),
+    };
+    options.end()?;
+    let mut bytes: Vec<u8> = hands.iter().flat_map(Hand::record).collect();
+    bytes.extend((0..broken).map(|_| 1));
+    write(&bytes)
+}
+
+fn write(bytes: &[u8]) -> Result<bool, String> {
+    let written = io::stdout().write_all(bytes);
+    written.map_err(|error| error.to_string())?;
+    Ok(true)
+}

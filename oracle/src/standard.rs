@@ -1,0 +1,78 @@
+//! Stands where the Rust source has its module `standard`: the unchanged merges and
+//! unpacking, and in place of the hashes and maps stand-ins that search.
+
+use crate::build_map::{MapValue, pack_values};
+use crate::words::{Goals, Words};
+
+#[path = "../verbatim/src/standard/core.rs"]
+#[rustfmt::skip]
+pub mod core;
+
+#[path = "../verbatim/src/standard/common.rs"]
+#[rustfmt::skip]
+mod common;
+#[path = "../verbatim/src/standard/necessary_tiles.rs"]
+#[rustfmt::skip]
+pub(crate) mod necessary_tiles;
+#[path = "../verbatim/src/standard/replacement_number.rs"]
+#[rustfmt::skip]
+pub(crate) mod replacement_number;
+#[path = "../verbatim/src/standard/unnecessary_tiles.rs"]
+#[rustfmt::skip]
+pub(crate) mod unnecessary_tiles;
+#[path = "../verbatim/src/standard/unpack.rs"]
+#[rustfmt::skip]
+mod unpack;
+
+// Stand-ins: the merges ask these as they ask the maps.
+mod hash;
+mod lookup;
+mod shupai_map;
+mod wanzi_19_map;
+mod zipai_map;
+
+// The published map of 1m/9m under another name, only to compare with.
+#[path = "../verbatim/src/standard/wanzi_19_map.rs"]
+#[rustfmt::skip]
+mod published_19_map;
+// Of this file the size is needed, the hash table is not.
+#[allow(dead_code)]
+#[path = "../verbatim/src/standard/wanzi_19_table.rs"]
+#[rustfmt::skip]
+mod wanzi_19_table;
+
+pub use lookup::forget;
+
+/// How many entries the published map of 1m/9m has.
+pub const PUBLISHED: usize = wanzi_19_table::WANZI_19_SIZE;
+
+/// The words of a suit, searched afresh. N is 9 for nine ranks, 7 for honours, 2 for 1m/9m.
+pub fn search<const N: usize>(counts: &[u8; N]) -> Words {
+    words(&pack_values(counts))
+}
+
+/// The words of an entry of the published map; the entry is 5 times 1m plus 9m.
+pub fn published(entry: usize) -> Words {
+    Words {
+        number: published_19_map::WANZI_19_REPLACEMENT_NUMBER_MAP[entry],
+        necessary: published_19_map::WANZI_19_NECESSARY_TILES_MAP[entry],
+        unnecessary: published_19_map::WANZI_19_UNNECESSARY_TILES_MAP[entry],
+    }
+}
+
+/// The ten goals that the Rust source reads from the words.
+pub fn unpack(words: &Words) -> Goals {
+    Goals {
+        numbers: unpack::unpack_replacement_number(words.number),
+        necessary: unpack::unpack_necessary_tiles(&words.necessary),
+        unnecessary: unpack::unpack_unnecessary_tiles(&words.unnecessary),
+    }
+}
+
+fn words(value: &MapValue) -> Words {
+    Words {
+        number: value.replacement_number,
+        necessary: value.necessary_tiles,
+        unnecessary: value.unnecessary_tiles,
+    }
+}
