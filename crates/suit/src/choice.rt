@@ -1,8 +1,7 @@
 // The eight choices at a rank (01 "One suit"; `D_TABLE`, `M_TABLE` and `N_TABLE` of the Rust).
 ghost use mathlib.Core.Path.{_≡_};
 ghost use Prim.Native.Nat.{_<_};
-ghost use lib.ListN.{getD};
-ghost use Rattle.walk.specs.Choice.{sequences, triplets, pairs};
+ghost use Rattle.walk.specs.Choice.{sequencesOf, tripletsOf, pairsOf};
 ghost use Rattle.suit.specs.Choice.{choiceOf};
 
 // Sequences, triplets and pairs of each choice.
@@ -14,21 +13,21 @@ const PAIRS: [u8; 8] = [0, 1, 0, 0, 1, 0, 0, 1];
 
 fn sequences_at(at: usize) -> u8
     requires { ⌜ at < 8 ⌝ }
-    ensures { λ r. ⌜ r ≡ getD sequences at 0 ⌝ }
+    ensures { λ r. ⌜ r ≡ sequencesOf at ⌝ }
 {
     SEQUENCES[at]
 }
 
 fn triplets_at(at: usize) -> u8
     requires { ⌜ at < 8 ⌝ }
-    ensures { λ r. ⌜ r ≡ getD triplets at 0 ⌝ }
+    ensures { λ r. ⌜ r ≡ tripletsOf at ⌝ }
 {
     TRIPLETS[at]
 }
 
 fn pairs_at(at: usize) -> u8
     requires { ⌜ at < 8 ⌝ }
-    ensures { λ r. ⌜ r ≡ getD pairs at 0 ⌝ }
+    ensures { λ r. ⌜ r ≡ pairsOf at ⌝ }
 {
     PAIRS[at]
 }

@@ -1,4 +1,4 @@
--- Counts laid one list after another: adding tiles on either side of the seam, and the lack.
+-- Counts laid one list after another: adding tiles on either side of the seam.
 -- Assumes nothing.
 use mathlib.Core.Path.{_≡_, ap}
 use mathlib.Core.List.{List, [], _∷_, _++_}

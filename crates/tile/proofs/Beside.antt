@@ -3,16 +3,17 @@
 use mathlib.Core.Path.{_≡_, refl, sym, ap, subst, subst₃, _∙_}
 use mathlib.Core.Logic.{_⊎_, inl, inr, ⊎-elim}
 use mathlib.Core.List.{List, _++_}
-use Prim.Native.Nat.{ℕ, _+_, _-_, _≤_, _<_}
+use Prim.Native.Nat.{ℕ, _+_, _-_, _<_}
 use native.Mathlib.Omega.{arith}
 use lib.ListN.{length, getD, replicate, length-replicate, replicate-append-replicate, List·getD-append, List·getD-eq-default}
 use lib.Seq.{getD-append-add}
 use lib.Dec.{T}
+use Rattle.tile.specs.Count.{Few}
 use Rattle.tile.specs.Board.{Board}
 use Rattle.tile.specs.Target.{Built, Target}
 use Rattle.tile.specs.Target.Built.{nothing}
 use Rattle.tile.proofs.Tests.{at-most-or-over}
-use Rattle.tile.proofs.Built.{Piece, put, Lies, pairs, melds, later, lay, built-ind, built-as, built-length, put-left, put-right}
+use Rattle.tile.proofs.Built.{Piece, put, Lies, pairsWith, meldsWith, later, lay, built-ind, built-as, built-length, put-left, put-right}
 use Rattle.tile.proofs.Built.Piece.{two, three, run}
 
 -- b is a followed by c; no sequence starts in a and ends in c
@@ -57,22 +58,22 @@ split-with x l r =
     }
 
 -- a piece more on one side is a piece more
-left-pairs : (q : Piece) (x y : ℕ) → pairs q x + y ≡ pairs q (x + y)
+left-pairs : (q : Piece) (x y : ℕ) → pairsWith q x + y ≡ pairsWith q (x + y)
 left-pairs (two i) x y = omega arith
 left-pairs (three i) x y = refl
 left-pairs (run i) x y = refl
 
-left-melds : (q : Piece) (x y : ℕ) → melds q x + y ≡ melds q (x + y)
+left-melds : (q : Piece) (x y : ℕ) → meldsWith q x + y ≡ meldsWith q (x + y)
 left-melds (two i) x y = refl
 left-melds (three i) x y = omega arith
 left-melds (run i) x y = omega arith
 
-right-pairs : (k : ℕ) (q : Piece) (x y : ℕ) → x + pairs q y ≡ pairs (later k q) (x + y)
+right-pairs : (k : ℕ) (q : Piece) (x y : ℕ) → x + pairsWith q y ≡ pairsWith (later k q) (x + y)
 right-pairs k (two i) x y = omega arith
 right-pairs k (three i) x y = refl
 right-pairs k (run i) x y = refl
 
-right-melds : (k : ℕ) (q : Piece) (x y : ℕ) → x + melds q y ≡ melds (later k q) (x + y)
+right-melds : (k : ℕ) (q : Piece) (x y : ℕ) → x + meldsWith q y ≡ meldsWith (later k q) (x + y)
 right-melds k (two i) x y = refl
 right-melds k (three i) x y = omega arith
 right-melds k (run i) x y = omega arith
@@ -137,15 +138,15 @@ module _ {a c b : Board} (side : Beside a c b) where
         counts = zeros;
       }
 
-  one-left : {p m : ℕ} {t : List ℕ} (q : Piece) → Lies a q → Parts p m t → Parts (pairs q p) (melds q m) (put t q)
+  one-left : {p m : ℕ} {t : List ℕ} (q : Piece) → Lies a q → Parts p m t → Parts (pairsWith q p) (meldsWith q m) (put t q)
   one-left q f x =
       record {
-        p1 = pairs q (x .p1);
+        p1 = pairsWith q (x .p1);
         p2 = x .p2;
-        m1 = melds q (x .m1);
+        m1 = meldsWith q (x .m1);
         m2 = x .m2;
-        pairs-all = left-pairs q (x .p1) (x .p2) ∙ ap (pairs q) (x .pairs-all);
-        melds-all = left-melds q (x .m1) (x .m2) ∙ ap (melds q) (x .melds-all);
+        pairs-all = left-pairs q (x .p1) (x .p2) ∙ ap (pairsWith q) (x .pairs-all);
+        melds-all = left-melds q (x .m1) (x .m2) ∙ ap (meldsWith q) (x .melds-all);
         left = put (x .left) q;
         right = x .right;
         on-left = lay q f (x .on-left);
@@ -153,16 +154,16 @@ module _ {a c b : Board} (side : Beside a c b) where
         counts = ap (λ (t : List ℕ). put t q) (x .counts) ∙ put-left a (x .left) (x .right) q f (built-length (x .on-left));
       }
 
-  one-right : {p m : ℕ} {t : List ℕ} (q : Piece) → Lies c q → Parts p m t → Parts (pairs (later (a .kinds) q) p) (melds (later (a .kinds) q) m) (put t (later (a .kinds) q))
+  one-right : {p m : ℕ} {t : List ℕ} (q : Piece) → Lies c q → Parts p m t → Parts (pairsWith (later (a .kinds) q) p) (meldsWith (later (a .kinds) q) m) (put t (later (a .kinds) q))
   one-right q f x =
       let q′ = later (a .kinds) q in
       record {
         p1 = x .p1;
-        p2 = pairs q (x .p2);
+        p2 = pairsWith q (x .p2);
         m1 = x .m1;
-        m2 = melds q (x .m2);
-        pairs-all = right-pairs (a .kinds) q (x .p1) (x .p2) ∙ ap (pairs q′) (x .pairs-all);
-        melds-all = right-melds (a .kinds) q (x .m1) (x .m2) ∙ ap (melds q′) (x .melds-all);
+        m2 = meldsWith q (x .m2);
+        pairs-all = right-pairs (a .kinds) q (x .p1) (x .p2) ∙ ap (pairsWith q′) (x .pairs-all);
+        melds-all = right-melds (a .kinds) q (x .m1) (x .m2) ∙ ap (meldsWith q′) (x .melds-all);
         left = x .left;
         right = put (x .right) q;
         on-left = x .on-left;
@@ -176,7 +177,7 @@ module _ {a c b : Board} (side : Beside a c b) where
       built-ind Parts none
       (λ p m t q f r x.
       ⊎-elim (λ l. one-left q l x)
-      (λ w. subst (λ (q : Piece). Parts (pairs q p) (melds q m) (put t q)) (sym (w .1)) (one-right (w .0) (w .2) x)) (lies-where q f))
+      (λ w. subst (λ (q : Piece). Parts (pairsWith q p) (meldsWith q m) (put t q)) (sym (w .1)) (one-right (w .0) (w .2) x)) (lies-where q f))
 
   -- ---- and back
 
@@ -198,7 +199,7 @@ module _ {a c b : Board} (side : Beside a c b) where
   pub target-split : {p m : ℕ} {t : List ℕ} → Target b p m t → Split (Target a) (Target c) p m t
   target-split tg =
       let x = built-split (tg .built) in
-      let few : (i : ℕ) → getD (x .left ++ x .right) i 0 ≤ 4 = subst (λ (t : List ℕ). (i : ℕ) → getD t i 0 ≤ 4) (x .counts) (tg .few) in
+      let few : Few (x .left ++ x .right) = subst Few (x .counts) (tg .few) in
       split-with x
       (record {
         built = x .on-left;

@@ -27,16 +27,16 @@ Lies b (two i) = (i < b .kinds) × T (b .held i)
 Lies b (three i) = (i < b .kinds) × T (b .held i)
 Lies b (run i) = (i + 2 < b .kinds) × T (b .starts i)
 
--- how many pairs, and how many melds, there are with the piece
-abbrev pub pairs : Piece → ℕ → ℕ
-pairs (two i) p = suc p
-pairs (three i) p = p
-pairs (run i) p = p
+-- how many pairsWith, and how many meldsWith, there are with the piece
+abbrev pub pairsWith : Piece → ℕ → ℕ
+pairsWith (two i) p = suc p
+pairsWith (three i) p = p
+pairsWith (run i) p = p
 
-abbrev pub melds : Piece → ℕ → ℕ
-melds (two i) m = m
-melds (three i) m = suc m
-melds (run i) m = suc m
+abbrev pub meldsWith : Piece → ℕ → ℕ
+meldsWith (two i) m = m
+meldsWith (three i) m = suc m
+meldsWith (run i) m = suc m
 
 -- the same piece k kinds later
 abbrev pub later : ℕ → Piece → Piece
@@ -46,13 +46,13 @@ later k (run i) = run (k + i)
 
 -- ---- laying pieces, and induction over what is laid
 
-pub lay : {b : Board} {p m : ℕ} {t : List ℕ} (q : Piece) → Lies b q → Built b p m t → Built b (pairs q p) (melds q m) (put t q)
+pub lay : {b : Board} {p m : ℕ} {t : List ℕ} (q : Piece) → Lies b q → Built b p m t → Built b (pairsWith q p) (meldsWith q m) (put t q)
 lay (two i) (l, h) r = pair i l h r
 lay (three i) (l, h) r = triplet i l h r
 lay (run i) (l, h) r = sequence i l h r
 
 module _ {b : Board} (P : ℕ → ℕ → List ℕ → Type 0) (bare : P 0 0 (replicate (b .kinds) 0))
-    (one : (p m : ℕ) (t : List ℕ) (q : Piece) → Lies b q → Built b p m t → P p m t → P (pairs q p) (melds q m) (put t q)) where
+    (one : (p m : ℕ) (t : List ℕ) (q : Piece) → Lies b q → Built b p m t → P p m t → P (pairsWith q p) (meldsWith q m) (put t q)) where
   pub built-ind : {p m : ℕ} {t : List ℕ} → Built b p m t → P p m t
   built-ind nothing = bare
   built-ind (pair {p} {m} {t} i l h r) = one p m t (two i) (l, h) r (built-ind r)
@@ -120,7 +120,7 @@ built-sum {b} = built-ind (λ p m t. sumTo n t ≡ 3 * m + 2 * p) (sum-zeros n n
     n = b .kinds
 
     one : (p m : ℕ) (t : List ℕ) (q : Piece) → Lies b q → length t ≡ b .kinds → sumTo n t ≡ 3 * m + 2 * p
-        → sumTo n (put t q) ≡ 3 * melds q m + 2 * pairs q p
+        → sumTo n (put t q) ≡ 3 * meldsWith q m + 2 * pairsWith q p
     one p m t (two i) (l, h) len e = omega (arith, sum-more n t i 2 l (omega arith))
     one p m t (three i) (l, h) len e = omega (arith, sum-more n t i 3 l (omega arith))
     one p m t (run i) (l, h) len e = omega (arith, sum-run n t i l len)

@@ -10,18 +10,18 @@ use native.Mathlib.Omega.{arith}
 use lib.ListN.{length, getD, replicate, length-set, List·getD-eq-default}
 use lib.Seq.{getD-set-same, getD-set-other}
 use lib.Dec.{T, leb, leb→le}
-use Rattle.tile.specs.Count.{more, sumTo, lackTo}
+use Rattle.tile.specs.Count.{copies, Few, more, sumTo, lackTo}
 use Rattle.tile.proofs.Tests.{at-most-or-over, allTo, all-to}
 
 -- no count of t is above that of u
 abbrev pub Within : List ℕ → List ℕ → Type 0
 Within t u = (i : ℕ) → getD t i 0 ≤ getD u i 0
 
--- at most four of each kind, by a computed test
-pub few-by : (t : List ℕ) → T (allTo (length t) (λ i. leb (getD t i 0) 4)) → (i : ℕ) → getD t i 0 ≤ 4
+-- few of each kind, by a computed test
+pub few-by : (t : List ℕ) → T (allTo (length t) (λ i. leb (getD t i 0) copies)) → Few t
 few-by t h i =
     ⊎-elim (λ over. omega (arith, List·getD-eq-default t 0 over))
-    (λ under. leb→le (getD t i 0) 4 (all-to (length t) (λ i. leb (getD t i 0) 4) h i under)) (at-most-or-over (length t) i)
+    (λ under. leb→le (getD t i 0) copies (all-to (length t) (λ i. leb (getD t i 0) copies) h i under)) (at-most-or-over (length t) i)
 
 -- ---- one kind more often
 
@@ -44,6 +44,14 @@ more-within (x ∷ t) zero c zero = omega arith
 more-within (x ∷ t) zero c (suc j) = le-refl (getD t j 0)
 more-within (x ∷ t) (suc i) c zero = le-refl x
 more-within (x ∷ t) (suc i) c (suc j) = more-within t i c j
+
+pub more-most : (t : List ℕ) (i c j : ℕ) → getD (more t i c) j 0 ≤ getD t j 0 + c
+unfolding more
+more-most [] i c j = omega arith
+more-most (x ∷ t) zero c zero = le-refl (x + c)
+more-most (x ∷ t) zero c (suc j) = omega arith
+more-most (x ∷ t) (suc i) c zero = omega arith
+more-most (x ∷ t) (suc i) c (suc j) = more-most t i c j
 
 -- ---- the sum
 
@@ -90,13 +98,13 @@ module _ (t h : List ℕ) where
 
 -- ---- the lack
 
--- no more is lacked than the target holds, and that is at most four of each kind
+-- no more is lacked than the target holds, and that is few of each kind
 pub lack-sum : (n : ℕ) (t h : List ℕ) → lackTo n t h ≤ sumTo n t
 unfolding lackTo sumTo
 lack-sum zero t h = le-refl 0
 lack-sum (suc n) t h = omega (arith, lack-sum n t h)
 
-pub lack-few : (n : ℕ) (t h : List ℕ) → ((i : ℕ) → getD t i 0 ≤ 4) → lackTo n t h ≤ 4 * n
+pub lack-few : (n : ℕ) (t h : List ℕ) → Few t → lackTo n t h ≤ copies * n
 unfolding lackTo
 lack-few zero t h few = le-refl 0
 lack-few (suc n) t h few = omega (arith, lack-few n t h few, few n)

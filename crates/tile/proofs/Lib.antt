@@ -12,4 +12,6 @@ pub mod Sense
 pub mod Whole
 pub mod Places
 pub mod Narrow
+pub mod Order
 mod Example
+mod Both

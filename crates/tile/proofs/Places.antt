@@ -1,12 +1,14 @@
--- The places of the suits are where their targets lie: cut at them, a target of the whole game is a target of each suit.
+-- The places of the suits are where their targets lie: 34 counts are a target of the whole game exactly when, cut at the places,
+-- they are a target of each suit, and the pairs and melds of these add up (01 "Merge": the parts at 0, 9, 18 and 27).
 -- Assumes nothing.
 use mathlib.Core.Path.{_≡_, refl, sym, ap, subst, _∙_}
+use mathlib.Core.Logic.{_↔_}
 use mathlib.Core.Bool.{Bool, true, false}
-use mathlib.Core.List.{List, [], _∷_, _++_, append-assoc}
+use mathlib.Core.List.{List, [], _∷_, _++_}
 use Prim.Native.Nat.{ℕ, _+_}
 use native.Mathlib.Omega.{arith}
-use lib.ListN.{length, take, drop, length-append}
-use lib.Seq.{take-at, drop-at}
+use lib.ListN.{length, take, drop, take-append-drop, drop-of-length-le}
+use lib.Seq.{take-at, drop-at, drop-drop}
 use Rattle.tile.specs.declared.suits.Place.{Place}
 use Rattle.tile.specs.Board.{Board}
 use Rattle.tile.specs.Target.{Target}
@@ -17,27 +19,76 @@ use Rattle.tile.proofs.Whole.{Row, whole-row}
 abbrev pub partAt : Place → List ℕ → List ℕ
 partAt place t = take (place .length) (drop (place .offset) t)
 
--- each part is a target of its suit, for some goal
-abbrev pub Cut : List Board → List Place → List ℕ → Type 0
-Cut [] places t = Unit {0}
-Cut (b ∷ bs) [] t = ⊥
-Cut (b ∷ bs) (place ∷ places) t = ((p : ℕ) × (m : ℕ) × Target b p m (partAt place t)) × Cut bs places t
+-- p pairs and m melds, some of them for a part and the rest for the parts after it
+pub record Shared (L R : ℕ → ℕ → Type 0) (p m : ℕ) : Type 0 where
+  pub p1 : ℕ
+  pub p2 : ℕ
+  pub m1 : ℕ
+  pub m2 : ℕ
+  pub pairs-all : p1 + p2 ≡ p
+  pub melds-all : m1 + m2 ≡ m
+  pub here : L p1 m1
+  pub rest : R p2 m2
 
--- behind `at` counts that belong to other suits
-row-cut : (bs : List Board) (at : ℕ) (before : List ℕ) (p m : ℕ) (t : List ℕ) → length before ≡ at → Row bs p m t → Cut bs (placesFrom at bs) (before ++ t)
-row-cut [] at before p m t e row = tt
-row-cut (b ∷ bs) at before p m t e row =
-    let len = built-length (row .on-left .built) in
-    let here : partAt (record { offset = at; length = b .kinds }) (before ++ t) ≡ row .left =
-    ap (take (b .kinds)) (drop-at before t at e) ∙ ap (take (b .kinds)) (row .counts) ∙ take-at (row .left) (row .right) (b .kinds) len in
-    let rest = row-cut bs (at + b .kinds) (before ++ row .left) (row .p2) (row .m2) (row .right) (length-append before (row .left) ∙ omega arith) (row .on-right) in (
-      (row .p1, row .m1, subst (λ (u : List ℕ). Target b (row .p1) (row .m1) u) (sym here) (row .on-left)),
-      subst (λ (u : List ℕ). Cut bs (placesFrom (at + b .kinds) bs) u) (append-assoc before (row .left) (row .right) ∙ ap (λ (u : List ℕ). before ++ u) (sym (row .counts))) rest,
-    )
+-- the part of t at each place is a target of its suit
+abbrev pub Cut : List Board → List Place → List ℕ → ℕ → ℕ → Type 0
+Cut [] [] t p m = (p ≡ 0) × (m ≡ 0)
+Cut [] (place ∷ places) t p m = ⊥
+Cut (b ∷ bs) [] t p m = ⊥
+Cut (b ∷ bs) (place ∷ places) t p m = Shared (λ p m. Target b p m (partAt place t)) (Cut bs places t) p m
 
-pub whole-cut : (three-player : Bool) {p m : ℕ} {t : List ℕ} → Target (wholeOf three-player) p m t
-    → Cut (suitsOf three-player) (placesFrom 0 (suitsOf three-player)) t
-whole-cut three-player {p} {m} {t} tg = row-cut (suitsOf three-player) 0 [] p m t refl (whole-row three-player p m t .0 tg)
+-- how many kinds the boards have in all
+abbrev total : List Board → ℕ
+total [] = 0
+total (b ∷ bs) = b .kinds + total bs
+
+module _ (t : List ℕ) where
+  to-cut : (bs : List Board) (at p m : ℕ) → Row bs p m (drop at t) → Cut bs (placesFrom at bs) t p m
+  to-cut [] at p m (ep, em, et) = (ep, em)
+  to-cut (b ∷ bs) at p m row =
+      let len = built-length (row .on-left .built) in
+      let left : partAt (record { offset = at; length = b .kinds }) t ≡ row .left = ap (take (b .kinds)) (row .counts) ∙ take-at (row .left) (row .right) (b .kinds) len in
+      let right : drop (at + b .kinds) t ≡ row .right =
+      sym (drop-drop (b .kinds) at t) ∙ ap (drop (b .kinds)) (row .counts) ∙ drop-at (row .left) (row .right) (b .kinds) len in
+      record {
+        p1 = row .p1;
+        p2 = row .p2;
+        m1 = row .m1;
+        m2 = row .m2;
+        pairs-all = row .pairs-all;
+        melds-all = row .melds-all;
+        here = subst (λ (u : List ℕ). Target b (row .p1) (row .m1) u) (sym left) (row .on-left);
+        rest = to-cut bs (at + b .kinds) (row .p2) (row .m2) (subst (λ (u : List ℕ). Row bs (row .p2) (row .m2) u) (sym right) (row .on-right));
+      }
+
+  from-cut : (bs : List Board) (at p m : ℕ) → length t ≡ at + total bs → Cut bs (placesFrom at bs) t p m → Row bs p m (drop at t)
+  from-cut [] at p m e (ep, em) = (ep, em, drop-of-length-le t {i = at} (omega arith))
+  from-cut (b ∷ bs) at p m e cut =
+      record {
+        p1 = cut .p1;
+        p2 = cut .p2;
+        m1 = cut .m1;
+        m2 = cut .m2;
+        pairs-all = cut .pairs-all;
+        melds-all = cut .melds-all;
+        left = take (b .kinds) (drop at t);
+        right = drop (at + b .kinds) t;
+        on-left = cut .here;
+        on-right = from-cut bs (at + b .kinds) (cut .p2) (cut .m2) (omega arith) (cut .rest);
+        counts = sym (take-append-drop (b .kinds) (drop at t)) ∙ ap (λ (u : List ℕ). take (b .kinds) (drop at t) ++ u) (drop-drop (b .kinds) at t);
+      }
+
+row-cut : (bs : List Board) (b : Board) (p m : ℕ) (t : List ℕ) → b .kinds ≡ total bs → Target b p m t ↔ Row bs p m t
+    → Target b p m t ↔ ((length t ≡ b .kinds) × Cut bs (placesFrom 0 bs) t p m)
+row-cut bs b p m t e same = (
+  λ tg. (built-length (tg .built), to-cut t bs 0 p m (same .0 tg)),
+  λ (len, cut). same .1 (from-cut t bs 0 p m (omega arith) cut),
+)
+
+pub whole-cut : (three-player : Bool) (p m : ℕ) (t : List ℕ)
+    → Target (wholeOf three-player) p m t ↔ ((length t ≡ 34) × Cut (suitsOf three-player) (placesFrom 0 (suitsOf three-player)) t p m)
+whole-cut false p m t = row-cut (suitsOf false) (wholeOf false) p m t refl (whole-row false p m t)
+whole-cut true p m t = row-cut (suitsOf true) (wholeOf true) p m t refl (whole-row true p m t)
 
 -- the places are the same in both games
 pub same-places : placesFrom 0 (suitsOf true) ≡ placesFrom 0 (suitsOf false)

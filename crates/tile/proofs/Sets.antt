@@ -11,7 +11,7 @@ use native.Mathlib.Omega.{arith}
 use lib.ListN.{getD}
 use lib.Dec.{T, ltb, ltb→lt, lt→ltb}
 use lib.Pow.{pow-pos, pow-add}
-use Rattle.tile.specs.Count.{bit, setTo, moreTo, Has}
+use Rattle.tile.specs.Count.{bit, setTo, beyondTo, Has}
 use Rattle.tile.specs.Answer.{Exactly}
 use Rattle.tile.proofs.Tests.{at-most-or-over}
 
@@ -117,7 +117,7 @@ pub exactly-none : {n : ℕ} {P : ℕ → Type 0} → ((i : ℕ) → i < n → P
 exactly-none {n} none = record { small = pow-pos n; sound = λ i l e. absurd (has-none i e); complete = λ i l q. absurd (none i l q) }
 
 -- the kinds of which t holds more than h
-pub exactly-more : (n : ℕ) (t h : List ℕ) → Exactly n (moreTo n t h) (λ i. getD h i 0 < getD t i 0)
-unfolding moreTo
-exactly-more n t h =
+pub exactly-beyond : (n : ℕ) (t h : List ℕ) → Exactly n (beyondTo n t h) (λ i. getD h i 0 < getD t i 0)
+unfolding beyondTo
+exactly-beyond n t h =
     exactly-as (λ i. ltb→lt (getD h i 0) (getD t i 0)) (λ i. lt→ltb (getD h i 0) (getD t i 0)) (exactly-test (λ i. ltb (getD h i 0) (getD t i 0)) n)

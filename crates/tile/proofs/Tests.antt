@@ -5,7 +5,7 @@ use mathlib.Core.Logic.{_⊎_, inl, inr, ⊎-elim}
 use mathlib.Core.Bool.{Bool, true, false, not, _&&_, _||_, Bool·beq}
 use Prim.Native.Nat.{ℕ, zero, suc, _≤_, _<_}
 use native.Mathlib.Omega.{arith}
-use lib.Dec.{T}
+use lib.Dec.{T, eqb, eqb-refl}
 
 pub at-most-or-over : (a b : ℕ) → (a ≤ b) ⊎ (b < a)
 at-most-or-over zero b = inl (omega arith)
@@ -38,6 +38,9 @@ equal true true h = refl
 equal true false h = absurd h
 equal false true h = absurd h
 equal false false h = refl
+
+pub eq→eqb : (a b : ℕ) → a ≡ b → T (eqb a b)
+eq→eqb a b e = subst (λ (x : ℕ). T (eqb a x)) e (eqb-refl a)
 
 -- every number below n passes: computed once, used at each number
 abbrev pub allTo : ℕ → (ℕ → Bool) → Bool

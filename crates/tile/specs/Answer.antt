@@ -1,4 +1,4 @@
--- What the right answer is, for any set of targets: the counts of which G holds, over n kinds (demand 3; 01 "What a target is").
+-- What the right answer is (01 "What a target is", "One suit"): for the hand h, over n kinds, where G t says that t is a target.
 -- Another form of the game is another G; nothing here changes.
 -- Assumes nothing.
 use mathlib.Core.Path.{_≡_}

@@ -1,4 +1,5 @@
 -- The boards that targets are built on (01 "Tiles and games", "One suit").
+-- On a whole board index 0 to 8 is 1m to 9m, 9 to 17 is 1p to 9p, 18 to 26 is 1s to 9s, 27 to 33 is 1z to 7z; on a suit's board index 0 is rank 1.
 -- Assumes nothing.
 use mathlib.Core.Bool.{Bool, true, false, _&&_, _||_}
 use Prim.Native.Nat.{ℕ, _%_}

@@ -3,6 +3,7 @@
 use mathlib.Core.Bool.{Bool, true, false}
 use mathlib.Core.List.{List, [], _∷_}
 use Prim.Native.Nat.{ℕ, _+_}
+use lib.ListN.{getD}
 use Rattle.tile.specs.Board.{Board, ranks, honours, ends, whole4, whole3}
 use Rattle.tile.specs.declared.suits.Place.{Place}
 
@@ -20,3 +21,7 @@ wholeOf true = whole3
 abbrev pub placesFrom : ℕ → List Board → List Place
 placesFrom at [] = []
 placesFrom at (b ∷ bs) = record { offset = at; length = b .kinds } ∷ placesFrom (at + b .kinds) bs
+
+-- where the suits lie among the 34 counts: m is 0, p is 1, s is 2, z is 3
+abbrev pub placeOf : ℕ → Place
+placeOf k = getD (placesFrom 0 (suitsOf false)) k (record { offset = 0; length = 0 })

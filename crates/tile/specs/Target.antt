@@ -2,10 +2,10 @@
 -- It names every meld and runs no search; one definition serves a suit and a whole hand.
 -- Assumes nothing.
 use mathlib.Core.List.{List}
-use Prim.Native.Nat.{ℕ, suc, _+_, _≤_, _<_}
-use lib.ListN.{getD, replicate}
+use Prim.Native.Nat.{ℕ, suc, _+_, _<_}
+use lib.ListN.{replicate}
 use lib.Dec.{T}
-use Rattle.tile.specs.Count.{more}
+use Rattle.tile.specs.Count.{Few, more}
 use Rattle.tile.specs.Board.{Board}
 
 -- the counts t are the sum of p pairs and m melds: two of a kind, three of a kind, or one each of three neighbours
@@ -19,4 +19,4 @@ pub data Built (b : Board) : ℕ → ℕ → List ℕ → Type 0 where
 -- a target for the goal of p pairs and m melds; a whole hand's for k melds has p = 1 and m = k
 pub record Target (b : Board) (p m : ℕ) (t : List ℕ) : Type 0 where
   pub built : Built b p m t
-  pub few : (i : ℕ) → getD t i 0 ≤ 4
+  pub few : Few t

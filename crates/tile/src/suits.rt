@@ -1,7 +1,12 @@
 // Where the four suits lie among the 34 counts (01 "Tiles and games", "Merge").
 ghost use mathlib.Core.Path.{_≡_};
-ghost use mathlib.Core.Bool.{false};
-ghost use Rattle.tile.specs.Suits.{suitsOf, placesFrom};
+ghost use Rattle.tile.specs.Suits.{placeOf};
+
+// A suit's part of the 34 counts.
+pub struct Place {
+    pub offset: usize,
+    pub length: usize,
+}
 
 pub struct SuitM;
 
@@ -9,6 +14,15 @@ impl SuitM {
     pub const OFFSET: usize = 0;
 
     pub const LENGTH: usize = 9;
+
+    pub fn place() -> Place
+        ensures { λ r. ⌜ r ≡ placeOf 0 ⌝ }
+    {
+        Place {
+            offset: Self::OFFSET,
+            length: Self::LENGTH,
+        }
+    }
 }
 
 pub struct SuitP;
@@ -17,6 +31,15 @@ impl SuitP {
     pub const OFFSET: usize = 9;
 
     pub const LENGTH: usize = 9;
+
+    pub fn place() -> Place
+        ensures { λ r. ⌜ r ≡ placeOf 1 ⌝ }
+    {
+        Place {
+            offset: Self::OFFSET,
+            length: Self::LENGTH,
+        }
+    }
 }
 
 pub struct SuitS;
@@ -25,6 +48,15 @@ impl SuitS {
     pub const OFFSET: usize = 18;
 
     pub const LENGTH: usize = 9;
+
+    pub fn place() -> Place
+        ensures { λ r. ⌜ r ≡ placeOf 2 ⌝ }
+    {
+        Place {
+            offset: Self::OFFSET,
+            length: Self::LENGTH,
+        }
+    }
 }
 
 pub struct SuitZ;
@@ -33,34 +65,13 @@ impl SuitZ {
     pub const OFFSET: usize = 27;
 
     pub const LENGTH: usize = 7;
-}
 
-// A suit's part of the 34 counts.
-pub struct Place {
-    pub offset: usize,
-    pub length: usize,
-}
-
-// The places of m, p, s, z: one after the other, none left out.
-pub fn places() -> [Place; 4]
-    ensures { λ r. ⌜ r ≡ placesFrom 0 (suitsOf false) ⌝ }
-{
-    [
+    pub fn place() -> Place
+        ensures { λ r. ⌜ r ≡ placeOf 3 ⌝ }
+    {
         Place {
-            offset: SuitM::OFFSET,
-            length: SuitM::LENGTH,
-        },
-        Place {
-            offset: SuitP::OFFSET,
-            length: SuitP::LENGTH,
-        },
-        Place {
-            offset: SuitS::OFFSET,
-            length: SuitS::LENGTH,
-        },
-        Place {
-            offset: SuitZ::OFFSET,
-            length: SuitZ::LENGTH,
-        },
-    ]
+            offset: Self::OFFSET,
+            length: Self::LENGTH,
+        }
+    }
 }

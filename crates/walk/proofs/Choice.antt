@@ -2,51 +2,55 @@
 -- Choice 3s + 2q + p has s sequences, q triplets and p pairs; without a sequence that is one of the first three.
 -- Assumes nothing.
 use mathlib.Core.Path.{_≡_}
-use mathlib.Core.Bool.{Bool, not, _&&_, _||_}
+use mathlib.Core.Bool.{Bool, not, _||_}
 use Prim.Native.Nat.{ℕ, _+_, _*_, _≤_, _<_}
 use native.Mathlib.Omega.{arith}
-use lib.ListN.{getD}
-use lib.Dec.{leb, eqb, leb→le, le→leb, eqb→eq}
-use Rattle.tile.proofs.Tests.{and-first, and-second, implied, allTo, all-to}
-use Rattle.walk.specs.Choice.{sequences, triplets, pairs}
+use lib.Dec.{T, leb, eqb, leb→le, le→leb, eqb→eq}
+use Rattle.tile.proofs.Tests.{implied, allTo, all-to}
+use Rattle.walk.specs.Choice.{sequencesOf, tripletsOf, pairsOf, meldsOf, tilesOf}
 
 abbrev pub choiceFor : ℕ → ℕ → ℕ → ℕ
 choiceFor s q p = 3 * s + 2 * q + p
 
--- choice c has s sequences, q triplets and p pairs
-abbrev pub Uses : ℕ → ℕ → ℕ → ℕ → Type 0
-Uses c s q p = (getD sequences c 0 ≡ s) × (getD triplets c 0 ≡ q) × (getD pairs c 0 ≡ p)
+-- choice c has s sequences, q triplets and p pairs, and so many melds and tiles
+pub record Uses (c s q p : ℕ) : Type 0 where
+  pub its-sequences : sequencesOf c ≡ s
+  pub its-triplets : tripletsOf c ≡ q
+  pub its-pairs : pairsOf c ≡ p
+  pub its-melds : meldsOf c ≡ s + q
+  pub its-tiles : tilesOf c ≡ s + 3 * q + 2 * p
 
-abbrev uses : ℕ → ℕ → ℕ → ℕ → Bool
-uses c s q p = eqb (getD sequences c 0) s && (eqb (getD triplets c 0) q && eqb (getD pairs c 0) p)
+-- a test of sequences, triplets and pairs, and the same for all that use at most four tiles
+abbrev ifFew : (ℕ → ℕ → ℕ → Bool) → ℕ → ℕ → ℕ → Bool
+ifFew test s q p = not (leb (s + 3 * q + 2 * p) 4) || test s q p
 
--- one test over all that may be used, and what it says at each place
-abbrev fits : ℕ → ℕ → ℕ → Bool
-fits s q p = not (leb (s + 3 * q + 2 * p) 4) || uses (choiceFor s q p) s q p
+abbrev forAll : (ℕ → ℕ → ℕ → Bool) → Bool
+forAll test = allTo 3 (λ s. allTo 2 (λ q. allTo 2 (ifFew test s q)))
+
+module _ (s q p : ℕ) (two : s ≤ 2) (one : p ≤ 1) (four : s + 3 * q + 2 * p ≤ 4) where
+  at-choice : (test : ℕ → ℕ → ℕ → Bool) → T (forAll test) → T (test s q p)
+  at-choice test all =
+      let at-s = all-to 3 (λ s. allTo 2 (λ q. allTo 2 (ifFew test s q))) all s (omega arith) in
+      let at-q = all-to 2 (λ q. allTo 2 (ifFew test s q)) at-s q (omega arith) in
+      implied (leb (s + 3 * q + 2 * p) 4) (test s q p) (all-to 2 (ifFew test s q) at-q p (omega arith)) (le→leb (s + 3 * q + 2 * p) 4 four)
+
+  equal-at : (f g : ℕ → ℕ → ℕ → ℕ) → T (forAll (λ s q p. eqb (f s q p) (g s q p))) → f s q p ≡ g s q p
+  equal-at f g all = eqb→eq (f s q p) (g s q p) (at-choice (λ s q p. eqb (f s q p) (g s q p)) all)
+
+  pub no-choice-missing : Uses (choiceFor s q p) s q p
+  no-choice-missing =
+      record {
+        its-sequences = equal-at (λ s q p. sequencesOf (choiceFor s q p)) (λ s q p. s) tt;
+        its-triplets = equal-at (λ s q p. tripletsOf (choiceFor s q p)) (λ s q p. q) tt;
+        its-pairs = equal-at (λ s q p. pairsOf (choiceFor s q p)) (λ s q p. p) tt;
+        its-melds = equal-at (λ s q p. meldsOf (choiceFor s q p)) (λ s q p. s + q) tt;
+        its-tiles = equal-at (λ s q p. tilesOf (choiceFor s q p)) (λ s q p. s + 3 * q + 2 * p) tt;
+      }
 
 -- the entries are small
-abbrev small : ℕ → Bool
-small c = leb (getD sequences c 0) 2 && (leb (getD triplets c 0) 1 && leb (getD pairs c 0) 1)
+module _ (c : ℕ) (l : c < 8) where
+  most-at : (f : ℕ → ℕ) (k : ℕ) → T (allTo 8 (λ c. leb (f c) k)) → f c ≤ k
+  most-at f k all = leb→le (f c) k (all-to 8 (λ c. leb (f c) k) all c l)
 
-pub choice-small : (c : ℕ) → c < 8 → (getD sequences c 0 ≤ 2) × (getD triplets c 0 ≤ 1) × (getD pairs c 0 ≤ 1)
-choice-small c l =
-    let at = all-to 8 small tt c l in
-    let last = leb (getD triplets c 0) 1 && leb (getD pairs c 0) 1 in
-    let others = and-second (leb (getD sequences c 0) 2) last at in (
-      leb→le (getD sequences c 0) 2 (and-first (leb (getD sequences c 0) 2) last at),
-      leb→le (getD triplets c 0) 1 (and-first (leb (getD triplets c 0) 1) (leb (getD pairs c 0) 1) others),
-      leb→le (getD pairs c 0) 1 (and-second (leb (getD triplets c 0) 1) (leb (getD pairs c 0) 1) others),
-    )
-
-pub no-choice-missing : (s q p : ℕ) → s ≤ 2 → p ≤ 1 → s + 3 * q + 2 * p ≤ 4 → Uses (choiceFor s q p) s q p
-no-choice-missing s q p two one four =
-    let at-s = all-to 3 (λ s. allTo 2 (λ q. allTo 2 (fits s q))) tt s (omega arith) in
-    let at-p = all-to 2 (fits s q) (all-to 2 (λ q. allTo 2 (fits s q)) at-s q (omega arith)) p (omega arith) in
-    let c = choiceFor s q p in
-    let right = implied (leb (s + 3 * q + 2 * p) 4) (uses c s q p) at-p (le→leb (s + 3 * q + 2 * p) 4 four) in
-    let last = eqb (getD triplets c 0) q && eqb (getD pairs c 0) p in
-    let others = and-second (eqb (getD sequences c 0) s) last right in (
-      eqb→eq (getD sequences c 0) s (and-first (eqb (getD sequences c 0) s) last right),
-      eqb→eq (getD triplets c 0) q (and-first (eqb (getD triplets c 0) q) (eqb (getD pairs c 0) p) others),
-      eqb→eq (getD pairs c 0) p (and-second (eqb (getD triplets c 0) q) (eqb (getD pairs c 0) p) others),
-    )
+  pub choice-small : (sequencesOf c ≤ 2) × (tripletsOf c ≤ 1) × (pairsOf c ≤ 1)
+  choice-small = (most-at sequencesOf 2 tt, most-at tripletsOf 1 tt, most-at pairsOf 1 tt)

@@ -1,4 +1,4 @@
--- `suit::distance::more_of` meets its contract. The loop's invariant: the set is that of the kinds passed.
+-- `suit::distance::beyond` meets its contract. The loop's invariant: the set is that of the kinds passed.
 -- Assumes nothing.
 use mathlib.Core.Path.{_≡_, refl, _∙_}
 use mathlib.Core.Logic.{⊎-elim}
@@ -9,42 +9,42 @@ use lib.ListN.{getD}
 use lib.Dec.{ltb}
 use native.Mathlib.Omega.{arith}
 use borrow.Author.Tests.{lt-ltb, le-ltb}
-use Rattle.tile.specs.Count.{setTo, moreTo}
+use Rattle.tile.specs.Count.{setTo, beyondTo}
 use Rattle.suit.proofs.Bit.{joins, stays}
-use Rattle.suit.proofs.distance.more_of.Statement.{statement}
-use Rattle.suit.proofs.distance.more_of.Tie as tie
+use Rattle.suit.proofs.distance.beyond.Statement.{statement}
+use Rattle.suit.proofs.distance.beyond.Tie as tie
 
 abbrev Inv-loop : tie.InvT-loop
-Inv-loop n many few set₀ i₀ set i = (i ≤ n) × (set ≡ moreTo i many few)
+Inv-loop n a b set₀ kind₀ set kind = (kind ≤ n) × (set ≡ beyondTo kind a b)
 
 abbrev μ-loop : tie.MeasureT-loop
-μ-loop n many few set₀ i₀ set i = n - i
+μ-loop n a b set₀ kind₀ set kind = n - kind
 
 loop-holds : tie.Need-loop-holds Inv-loop μ-loop
-unfolding moreTo setTo
+unfolding beyondTo setTo
 loop-holds c = (omega arith, refl)
 
--- the test of `moreTo`
+-- the test of `beyondTo`
 abbrev holds-more : List ℕ → List ℕ → ℕ → Bool
-holds-more many few i = ltb (getD few i 0) (getD many i 0)
+holds-more a b i = ltb (getD b i 0) (getD a i 0)
 
 loop-again : tie.Need-loop-again Inv-loop μ-loop
-unfolding moreTo
+unfolding beyondTo
 loop-again c =
     let s = c .before .before .before .before in
-    let test = holds-more (s .before .args .many .now) (s .before .args .few .now) in (
+    let test = holds-more (s .before .args .a .now) (s .before .args .b .now) in (
       omega arith,
-      ⊎-elim (λ w. w .1 ∙ joins test (s .loop .i) (s .loop .set) (s .loop .inv .1) (lt-ltb _ _ (w .0 .taken)) (omega arith))
-          (λ w. w .1 ∙ stays test (s .loop .i) (s .loop .set) (s .loop .inv .1) (le-ltb _ _ (w .0 .left))) (c .if1 .came),
+      ⊎-elim (λ w. w .1 ∙ joins test (s .loop .kind) (s .loop .set) (s .loop .inv .1) (lt-ltb _ _ (w .0 .taken)) (omega arith))
+          (λ w. w .1 ∙ stays test (s .loop .kind) (s .loop .set) (s .loop .inv .1) (le-ltb _ _ (w .0 .left))) (c .if1 .came),
     )
 
 returns : tie.Need-returns Inv-loop μ-loop
 returns c =
-    let e : c .before .loop .i ≡ c .before .before .args .n = omega arith in
+    let e : c .before .loop .kind ≡ c .before .before .args .n = omega arith in
     rw (← e) (c .before .loop .inv .1)
 
-pub more-of-spec : {M : Type 1} → statement M
-more-of-spec =
+pub beyond-spec : {M : Type 1} → statement M
+beyond-spec =
     tie.close
     (tie.spec
     Inv-loop
