@@ -5,14 +5,14 @@ use mathlib.Core.Logic.{_⊎_, inl, inr, ⊎-elim}
 use mathlib.Core.List.{List, _++_}
 use Prim.Native.Nat.{ℕ, _+_, _-_, _<_}
 use native.Mathlib.Omega.{arith}
-use lib.ListN.{length, getD, replicate, length-replicate, replicate-append-replicate, List·getD-append, List·getD-eq-default}
-use lib.Seq.{getD-append-add}
+use lib.ListN.{replicate, length-replicate, replicate-append-replicate}
 use lib.Dec.{T}
 use Rattle.tile.specs.Count.{Few}
 use Rattle.tile.specs.Board.{Board}
 use Rattle.tile.specs.Target.{Built, Target}
 use Rattle.tile.specs.Target.Built.{nothing}
 use Rattle.tile.proofs.Tests.{at-most-or-over}
+use Rattle.tile.proofs.Append.{few-left, few-right, few-join}
 use Rattle.tile.proofs.Built.{Piece, put, Lies, pairsWith, meldsWith, later, lay, built-ind, built-as, built-length, put-left, put-right}
 use Rattle.tile.proofs.Built.Piece.{two, three, run}
 
@@ -25,24 +25,19 @@ pub record Beside (a c b : Board) : Type 0 where
   pub starts-after : (i : ℕ) → i < c .kinds → b .starts (a .kinds + i) ≡ c .starts i
   pub apart : (i : ℕ) → i < a .kinds → T (a .starts i) → i + 2 < a .kinds
 
--- p pairs and m melds with the counts t, shared out: some of them with L, before the rest of them with R
-pub record Split (L R : ℕ → ℕ → List ℕ → Type 0) (p m : ℕ) (t : List ℕ) : Type 0 where
+-- p pairs and m melds shared out: some of them for L, the rest for R
+pub record Shared (L R : ℕ → ℕ → Type 0) (p m : ℕ) : Type 0 where
   pub p1 : ℕ
   pub p2 : ℕ
   pub m1 : ℕ
   pub m2 : ℕ
   pub pairs-all : p1 + p2 ≡ p
   pub melds-all : m1 + m2 ≡ m
-  pub left : List ℕ
-  pub right : List ℕ
-  pub on-left : L p1 m1 left
-  pub on-right : R p2 m2 right
-  pub counts : t ≡ left ++ right
+  pub first : L p1 m1
+  pub rest : R p2 m2
 
--- the same parts, with something else known of them
-pub split-with : {L R L′ R′ : ℕ → ℕ → List ℕ → Type 0} {p m : ℕ} {t : List ℕ} (x : Split L R p m t) → L′ (x .p1) (x .m1) (x .left)
-    → R′ (x .p2) (x .m2) (x .right) → Split L′ R′ p m t
-split-with x l r =
+pub shared-as : {L R L′ R′ : ℕ → ℕ → Type 0} {p m : ℕ} → ((p m : ℕ) → L p m → L′ p m) → ((p m : ℕ) → R p m → R′ p m) → Shared L R p m → Shared L′ R′ p m
+shared-as on-first on-rest x =
     record {
       p1 = x .p1;
       p2 = x .p2;
@@ -50,12 +45,16 @@ split-with x l r =
       m2 = x .m2;
       pairs-all = x .pairs-all;
       melds-all = x .melds-all;
-      left = x .left;
-      right = x .right;
-      on-left = l;
-      on-right = r;
-      counts = x .counts;
+      first = on-first (x .p1) (x .m1) (x .first);
+      rest = on-rest (x .p2) (x .m2) (x .rest);
     }
+
+-- and the counts t with them: first those for L, then those for R
+pub record Split (L R : ℕ → ℕ → List ℕ → Type 0) (p m : ℕ) (t : List ℕ) : Type 0 where
+  pub left : List ℕ
+  pub right : List ℕ
+  pub counts : t ≡ left ++ right
+  pub goals : Shared (λ p m. L p m left) (λ p m. R p m right) p m
 
 -- a piece more on one side is a piece more
 left-pairs : (q : Piece) (x y : ℕ) → pairsWith q x + y ≡ pairsWith q (x + y)
@@ -125,50 +124,52 @@ module _ {a c b : Board} (side : Beside a c b) where
   none : Parts 0 0 (replicate (b .kinds) 0)
   none =
       record {
-        p1 = 0;
-        p2 = 0;
-        m1 = 0;
-        m2 = 0;
-        pairs-all = refl;
-        melds-all = refl;
         left = replicate (a .kinds) 0;
         right = replicate (c .kinds) 0;
-        on-left = nothing;
-        on-right = nothing;
         counts = zeros;
+        goals = record { p1 = 0; p2 = 0; m1 = 0; m2 = 0; pairs-all = refl; melds-all = refl; first = nothing; rest = nothing };
       }
 
   one-left : {p m : ℕ} {t : List ℕ} (q : Piece) → Lies a q → Parts p m t → Parts (pairsWith q p) (meldsWith q m) (put t q)
   one-left q f x =
+      let g = x .goals in
       record {
-        p1 = pairsWith q (x .p1);
-        p2 = x .p2;
-        m1 = meldsWith q (x .m1);
-        m2 = x .m2;
-        pairs-all = left-pairs q (x .p1) (x .p2) ∙ ap (pairsWith q) (x .pairs-all);
-        melds-all = left-melds q (x .m1) (x .m2) ∙ ap (meldsWith q) (x .melds-all);
         left = put (x .left) q;
         right = x .right;
-        on-left = lay q f (x .on-left);
-        on-right = x .on-right;
-        counts = ap (λ (t : List ℕ). put t q) (x .counts) ∙ put-left a (x .left) (x .right) q f (built-length (x .on-left));
+        counts = ap (λ (t : List ℕ). put t q) (x .counts) ∙ put-left a (x .left) (x .right) q f (built-length (g .first));
+        goals =
+            record {
+              p1 = pairsWith q (g .p1);
+              p2 = g .p2;
+              m1 = meldsWith q (g .m1);
+              m2 = g .m2;
+              pairs-all = left-pairs q (g .p1) (g .p2) ∙ ap (pairsWith q) (g .pairs-all);
+              melds-all = left-melds q (g .m1) (g .m2) ∙ ap (meldsWith q) (g .melds-all);
+              first = lay q f (g .first);
+              rest = g .rest;
+            };
       }
 
-  one-right : {p m : ℕ} {t : List ℕ} (q : Piece) → Lies c q → Parts p m t → Parts (pairsWith (later (a .kinds) q) p) (meldsWith (later (a .kinds) q) m) (put t (later (a .kinds) q))
+  one-right : {p m : ℕ} {t : List ℕ} (q : Piece) → Lies c q → Parts p m t
+      → Parts (pairsWith (later (a .kinds) q) p) (meldsWith (later (a .kinds) q) m) (put t (later (a .kinds) q))
   one-right q f x =
       let q′ = later (a .kinds) q in
+      let g = x .goals in
       record {
-        p1 = x .p1;
-        p2 = pairsWith q (x .p2);
-        m1 = x .m1;
-        m2 = meldsWith q (x .m2);
-        pairs-all = right-pairs (a .kinds) q (x .p1) (x .p2) ∙ ap (pairsWith q′) (x .pairs-all);
-        melds-all = right-melds (a .kinds) q (x .m1) (x .m2) ∙ ap (meldsWith q′) (x .melds-all);
         left = x .left;
         right = put (x .right) q;
-        on-left = x .on-left;
-        on-right = lay q f (x .on-right);
-        counts = ap (λ (t : List ℕ). put t q′) (x .counts) ∙ put-right (a .kinds) (x .left) (x .right) q (built-length (x .on-left));
+        counts = ap (λ (t : List ℕ). put t q′) (x .counts) ∙ put-right (a .kinds) (x .left) (x .right) q (built-length (g .first));
+        goals =
+            record {
+              p1 = g .p1;
+              p2 = pairsWith q (g .p2);
+              m1 = g .m1;
+              m2 = meldsWith q (g .m2);
+              pairs-all = right-pairs (a .kinds) q (g .p1) (g .p2) ∙ ap (pairsWith q′) (g .pairs-all);
+              melds-all = right-melds (a .kinds) q (g .m1) (g .m2) ∙ ap (meldsWith q′) (g .melds-all);
+              first = g .first;
+              rest = lay q f (g .rest);
+            };
       }
 
   pub built-split : {p m : ℕ} {t : List ℕ} → Built b p m t → Split (Built a) (Built c) p m t
@@ -200,29 +201,18 @@ module _ {a c b : Board} (side : Beside a c b) where
   target-split tg =
       let x = built-split (tg .built) in
       let few : Few (x .left ++ x .right) = subst Few (x .counts) (tg .few) in
-      split-with x
-      (record {
-        built = x .on-left;
-        few =
-            λ i.
-            ⊎-elim (λ over. omega (arith, List·getD-eq-default (x .left) 0 over))
-            (λ under. omega (arith, few i, List·getD-append (x .left) (x .right) 0 i under)) (at-most-or-over (length (x .left)) i);
-      })
-      (record { built = x .on-right; few = λ i. omega (arith, few (length (x .left) + i), getD-append-add (x .left) (x .right) i 0) })
+      record {
+        left = x .left;
+        right = x .right;
+        counts = x .counts;
+        goals = shared-as (λ p m r. record { built = r; few = few-left (x .left) (x .right) few })
+            (λ p m r. record { built = r; few = few-right (x .left) (x .right) few }) (x .goals);
+      }
 
   pub target-join : {p1 m1 p2 m2 : ℕ} {l r : List ℕ} → Target a p1 m1 l → Target c p2 m2 r → Target b (p1 + p2) (m1 + m2) (l ++ r)
-  target-join {l = l} {r = r} x y =
-      record {
-        built = built-join (x .built) (y .built);
-        few =
-            λ i.
-            ⊎-elim
-            (λ over.
-            let e : length l + (i - length l) ≡ i = omega arith in
-            omega (arith, y .few (i - length l), getD-append-add l r (i - length l) 0, ap (λ (j : ℕ). getD (l ++ r) j 0) e))
-            (λ under. omega (arith, x .few i, List·getD-append l r 0 i under)) (at-most-or-over (length l) i);
-      }
+  target-join {l = l} {r = r} x y = record { built = built-join (x .built) (y .built); few = few-join l r (x .few) (y .few) }
 
   pub target-whole : {p m : ℕ} {t : List ℕ} → Split (Target a) (Target c) p m t → Target b p m t
   target-whole x =
-      subst₃ (λ (p m : ℕ) (t : List ℕ). Target b p m t) (x .pairs-all) (x .melds-all) (sym (x .counts)) (target-join (x .on-left) (x .on-right))
+      subst₃ (λ (p m : ℕ) (t : List ℕ). Target b p m t) (x .goals .pairs-all) (x .goals .melds-all) (sym (x .counts))
+      (target-join (x .goals .first) (x .goals .rest))

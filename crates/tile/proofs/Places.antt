@@ -14,21 +14,11 @@ use Rattle.tile.specs.Board.{Board}
 use Rattle.tile.specs.Target.{Target}
 use Rattle.tile.specs.Suits.{suitsOf, wholeOf, placesFrom}
 use Rattle.tile.proofs.Built.{built-length}
+use Rattle.tile.proofs.Beside.{Shared, shared-as}
 use Rattle.tile.proofs.Whole.{Row, whole-row}
 
 abbrev pub partAt : Place → List ℕ → List ℕ
 partAt place t = take (place .length) (drop (place .offset) t)
-
--- p pairs and m melds, some of them for a part and the rest for the parts after it
-pub record Shared (L R : ℕ → ℕ → Type 0) (p m : ℕ) : Type 0 where
-  pub p1 : ℕ
-  pub p2 : ℕ
-  pub m1 : ℕ
-  pub m2 : ℕ
-  pub pairs-all : p1 + p2 ≡ p
-  pub melds-all : m1 + m2 ≡ m
-  pub here : L p1 m1
-  pub rest : R p2 m2
 
 -- the part of t at each place is a target of its suit
 abbrev pub Cut : List Board → List Place → List ℕ → ℕ → ℕ → Type 0
@@ -46,36 +36,21 @@ module _ (t : List ℕ) where
   to-cut : (bs : List Board) (at p m : ℕ) → Row bs p m (drop at t) → Cut bs (placesFrom at bs) t p m
   to-cut [] at p m (ep, em, et) = (ep, em)
   to-cut (b ∷ bs) at p m row =
-      let len = built-length (row .on-left .built) in
-      let left : partAt (record { offset = at; length = b .kinds }) t ≡ row .left = ap (take (b .kinds)) (row .counts) ∙ take-at (row .left) (row .right) (b .kinds) len in
+      let len = built-length (row .goals .first .built) in
+      let left : take (b .kinds) (drop at t) ≡ row .left = ap (take (b .kinds)) (row .counts) ∙ take-at (row .left) (row .right) (b .kinds) len in
       let right : drop (at + b .kinds) t ≡ row .right =
       sym (drop-drop (b .kinds) at t) ∙ ap (drop (b .kinds)) (row .counts) ∙ drop-at (row .left) (row .right) (b .kinds) len in
-      record {
-        p1 = row .p1;
-        p2 = row .p2;
-        m1 = row .m1;
-        m2 = row .m2;
-        pairs-all = row .pairs-all;
-        melds-all = row .melds-all;
-        here = subst (λ (u : List ℕ). Target b (row .p1) (row .m1) u) (sym left) (row .on-left);
-        rest = to-cut bs (at + b .kinds) (row .p2) (row .m2) (subst (λ (u : List ℕ). Row bs (row .p2) (row .m2) u) (sym right) (row .on-right));
-      }
+      shared-as (λ p m x. subst (λ (u : List ℕ). Target b p m u) (sym left) x)
+      (λ p m x. to-cut bs (at + b .kinds) p m (subst (λ (u : List ℕ). Row bs p m u) (sym right) x)) (row .goals)
 
   from-cut : (bs : List Board) (at p m : ℕ) → length t ≡ at + total bs → Cut bs (placesFrom at bs) t p m → Row bs p m (drop at t)
   from-cut [] at p m e (ep, em) = (ep, em, drop-of-length-le t {i = at} (omega arith))
   from-cut (b ∷ bs) at p m e cut =
       record {
-        p1 = cut .p1;
-        p2 = cut .p2;
-        m1 = cut .m1;
-        m2 = cut .m2;
-        pairs-all = cut .pairs-all;
-        melds-all = cut .melds-all;
         left = take (b .kinds) (drop at t);
         right = drop (at + b .kinds) t;
-        on-left = cut .here;
-        on-right = from-cut bs (at + b .kinds) (cut .p2) (cut .m2) (omega arith) (cut .rest);
         counts = sym (take-append-drop (b .kinds) (drop at t)) ∙ ap (λ (u : List ℕ). take (b .kinds) (drop at t) ++ u) (drop-drop (b .kinds) at t);
+        goals = shared-as (λ p m x. x) (λ p m x. from-cut bs (at + b .kinds) p m (omega arith) x) cut;
       }
 
 row-cut : (bs : List Board) (b : Board) (p m : ℕ) (t : List ℕ) → b .kinds ≡ total bs → Target b p m t ↔ Row bs p m t

@@ -17,7 +17,7 @@ use Rattle.tile.proofs.Tests.{and-first, and-second, implied, equal, al
 use Rattle.tile.proofs.Counts.{zeros-at}
 use Rattle.tile.proofs.Built.{Piece, Lies, built-ind}
 use Rattle.tile.proofs.Built.Piece.{two, three, run}
-use Rattle.tile.proofs.Beside.{Beside, Split, split-with, target-split, target-whole}
+use Rattle.tile.proofs.Beside.{Beside, shared-as, Split, target-split, target-whole}
 
 -- t is a target of each of the boards, one after the other
 abbrev pub Row : List Board → ℕ → ℕ → List ℕ → Type 0
@@ -85,13 +85,18 @@ on-bare {b} e (ep, em, et) =
     subst₃ (λ (p m : ℕ) (t : List ℕ). Target b p m t) (sym ep) (sym em) (ap (λ (n : ℕ). replicate n 0) e ∙ sym et)
     (record { built = nothing; few = λ i. omega (arith, zeros-at (b .kinds) i) })
 
+-- the rest, said in another way
+with-rest : {L R S : ℕ → ℕ → List ℕ → Type 0} {p m : ℕ} {t : List ℕ} → ((p m : ℕ) (t : List ℕ) → R p m t → S p m t) → Split L R p m t → Split L S p m t
+with-rest to x =
+    record { left = x .left; right = x .right; counts = x .counts; goals = shared-as (λ p m l. l) (λ p m r. to p m (x .right) r) (x .goals) }
+
 pub in-row : (bs : List Board) (b : Board) → T (inRow bs b) → (p m : ℕ) (t : List ℕ) → Target b p m t ↔ Row bs p m t
 in-row [] b h p m t = (λ tg. bare (eqb→eq (b .kinds) 0 h) (tg .built), on-bare (eqb→eq (b .kinds) 0 h))
 in-row (a ∷ bs) b h p m t =
     let side = begins-beside a b (and-first (begins a b) (inRow bs (from (a .kinds) b)) h) in
     let rest = in-row bs (from (a .kinds) b) (and-second (begins a b) (inRow bs (from (a .kinds) b)) h) in (
-      λ tg. let x = target-split side tg in split-with x (x .on-left) (rest (x .p2) (x .m2) (x .right) .0 (x .on-right)),
-      λ x. target-whole side (split-with x (x .on-left) (rest (x .p2) (x .m2) (x .right) .1 (x .on-right))),
+      λ tg. with-rest (λ p m t. rest p m t .0) (target-split side tg),
+      λ x. target-whole side (with-rest (λ p m t. rest p m t .1) x),
     )
 
 -- ---- the two games
