@@ -27,7 +27,7 @@ Lies b (two i) = (i < b .kinds) × T (b .held i)
 Lies b (three i) = (i < b .kinds) × T (b .held i)
 Lies b (run i) = (i + 2 < b .kinds) × T (b .starts i)
 
--- how many pairsWith, and how many meldsWith, there are with the piece
+-- how many pairs, and how many melds, there are with the piece
 abbrev pub pairsWith : Piece → ℕ → ℕ
 pairsWith (two i) p = suc p
 pairsWith (three i) p = p

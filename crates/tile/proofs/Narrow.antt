@@ -8,7 +8,7 @@ use mathlib.Core.List.{List}
 use Prim.Native.Nat.{ℕ, _+_, _≤_, _<_}
 use native.Mathlib.Omega.{arith}
 use lib.ListN.{length, getD, replicate}
-use lib.Dec.{T, leb, leb→le, le→leb, T-not, not-T}
+use lib.Dec.{T, leb, leb→le, le→leb, T-not}
 use Rattle.tile.specs.Count.{more}
 use Rattle.tile.specs.Board.{Board, ranks, ends, whole4, whole3}
 use Rattle.tile.specs.Target.{Built, Target}
@@ -18,28 +18,30 @@ use Rattle.tile.proofs.Counts.{length-more, more-at, more-off, more-wit
 use Rattle.tile.proofs.Built.{Piece, put, Lies, lay, built-ind, built-as, built-length, put-within}
 use Rattle.tile.proofs.Built.Piece.{two, three, run}
 
+-- Throughout, `out` says which kinds are left out; the others are kept.
+
 -- the kinds that a piece is made of are all kept
 abbrev Kept : (ℕ → Bool) → Piece → Type 0
-Kept keep (two i) = T (keep i)
-Kept keep (three i) = T (keep i)
-Kept keep (run i) = T (keep i) × T (keep (i + 1)) × T (keep (i + 2))
+Kept out (two i) = T (not (out i))
+Kept out (three i) = T (not (out i))
+Kept out (run i) = T (not (out i)) × T (not (out (i + 1))) × T (not (out (i + 2)))
 
--- t holds none of the kinds that are not kept
-abbrev Only : (ℕ → Bool) → List ℕ → Type 0
-Only keep t = (i : ℕ) → T (not (keep i)) → getD t i 0 ≡ 0
+-- t holds none of the kinds that are left out
+abbrev Without : (ℕ → Bool) → List ℕ → Type 0
+Without out t = (i : ℕ) → T (out i) → getD t i 0 ≡ 0
 
--- c is the board b with only the kinds that are kept
-pub record Narrower (keep : ℕ → Bool) (c b : Board) : Type 0 where
+-- c is the board b without these kinds
+pub record Narrower (out : ℕ → Bool) (c b : Board) : Type 0 where
   pub all : c .kinds ≡ b .kinds
-  pub held : (i : ℕ) → i < b .kinds → c .held i ≡ (b .held i && keep i)
-  pub starts : (i : ℕ) → i < b .kinds → c .starts i ≡ (b .starts i && (keep i && (keep (i + 1) && keep (i + 2))))
+  pub held : (i : ℕ) → i < b .kinds → c .held i ≡ (b .held i && not (out i))
+  pub starts : (i : ℕ) → i < b .kinds → c .starts i ≡ (b .starts i && (not (out i) && (not (out (i + 1)) && not (out (i + 2)))))
 
-module _ (keep : ℕ → Bool) where
-  apart : (i j : ℕ) → T (keep i) → T (not (keep j)) → j ≢ i
-  apart i j k n e = T-not (keep j) n (subst (λ (x : ℕ). T (keep x)) (sym e) k)
+module _ (out : ℕ → Bool) where
+  apart : (i j : ℕ) → T (not (out i)) → T (out j) → j ≢ i
+  apart i j k o e = T-not (out i) k (subst (λ (x : ℕ). T (out x)) e o)
 
   -- a piece of kept kinds leaves the others as they are
-  put-off : (t : List ℕ) (q : Piece) → Kept keep q → (j : ℕ) → T (not (keep j)) → getD (put t q) j 0 ≡ getD t j 0
+  put-off : (t : List ℕ) (q : Piece) → Kept out q → (j : ℕ) → T (out j) → getD (put t q) j 0 ≡ getD t j 0
   put-off t (two i) k j n = more-off t i 2 j (apart i j k n)
   put-off t (three i) k j n = more-off t i 3 j (apart i j k n)
   put-off t (run i) (k, l, m) j n =
@@ -47,10 +49,10 @@ module _ (keep : ℕ → Bool) where
       ∙ more-off t i 1 j (apart i j k n)
 
   -- what is held is kept
-  held-kept : (t : List ℕ) (i : ℕ) → Only keep t → 0 < getD t i 0 → T (keep i)
-  held-kept t i only l = ⊎-elim (λ k. k) (λ n. absurd (omega (arith, only i n))) (passes-or-fails (keep i))
+  held-kept : (t : List ℕ) (i : ℕ) → Without out t → 0 < getD t i 0 → T (not (out i))
+  held-kept t i only l = ⊎-elim (λ o. absurd (omega (arith, only i o))) (λ k. k) (passes-or-fails (out i))
 
-  put-kept : (b : Board) (t : List ℕ) (q : Piece) → Lies b q → length t ≡ b .kinds → Only keep (put t q) → Kept keep q
+  put-kept : (b : Board) (t : List ℕ) (q : Piece) → Lies b q → length t ≡ b .kinds → Without out (put t q) → Kept out q
   put-kept b t (two i) (l, h) e only = held-kept (put t (two i)) i only (omega (arith, more-at t i 2 (omega arith)))
   put-kept b t (three i) (l, h) e only = held-kept (put t (three i)) i only (omega (arith, more-at t i 3 (omega arith)))
   put-kept b t (run i) (l, h) e only =
@@ -64,114 +66,103 @@ module _ (keep : ℕ → Bool) where
         held-kept w (i + 2) only (omega (arith, more-at v (i + 2) 1 (omega arith))),
       )
 
-  module _ {c b : Board} (less : Narrower keep c b) where
+  module _ {c b : Board} (less : Narrower out c b) where
     -- a kind, and a start, of c is one of b that is kept
-    held-wide : (i : ℕ) → i < c .kinds → T (c .held i) → (i < b .kinds) × T (b .held i) × T (keep i)
+    held-wide : (i : ℕ) → i < c .kinds → T (c .held i) → (i < b .kinds) × T (b .held i) × T (not (out i))
     held-wide i l h =
         let m : i < b .kinds = omega (arith, less .all) in
         let both = subst T (less .held i m) h in
-        (m, and-first (b .held i) (keep i) both, and-second (b .held i) (keep i) both)
+        (m, and-first (b .held i) (not (out i)) both, and-second (b .held i) (not (out i)) both)
 
-    held-narrow : (i : ℕ) → i < b .kinds → T (b .held i) → T (keep i) → (i < c .kinds) × T (c .held i)
-    held-narrow i l h k = (omega (arith, less .all), subst T (sym (less .held i l)) (and-both (b .held i) (keep i) h k))
+    held-narrow : (i : ℕ) → i < b .kinds → T (b .held i) → T (not (out i)) → (i < c .kinds) × T (c .held i)
+    held-narrow i l h k = (omega (arith, less .all), subst T (sym (less .held i l)) (and-both (b .held i) (not (out i)) h k))
 
     -- a piece lies on c exactly where it lies on b and is made of kept kinds
-    wide : (q : Piece) → Lies c q → Lies b q × Kept keep q
+    wide : (q : Piece) → Lies c q → Lies b q × Kept out q
     wide (two i) (l, h) = let (m, g, k) = held-wide i l h in ((m, g), k)
     wide (three i) (l, h) = let (m, g, k) = held-wide i l h in ((m, g), k)
     wide (run i) (l, h) =
         let m : i + 2 < b .kinds = omega (arith, less .all) in
-        let last = keep (i + 1) && keep (i + 2) in
+        let last = not (out (i + 1)) && not (out (i + 2)) in
         let all = subst T (less .starts i (omega arith)) h in
-        let kept = and-second (b .starts i) (keep i && last) all in
-        let two-kept = and-second (keep i) last kept in (
-          (m, and-first (b .starts i) (keep i && last) all),
-          (and-first (keep i) last kept, and-first (keep (i + 1)) (keep (i + 2)) two-kept, and-second (keep (i + 1)) (keep (i + 2)) two-kept),
+        let kept = and-second (b .starts i) (not (out i) && last) all in
+        let two-kept = and-second (not (out i)) last kept in (
+          (m, and-first (b .starts i) (not (out i) && last) all),
+          (and-first (not (out i)) last kept, and-first (not (out (i + 1))) (not (out (i + 2))) two-kept, and-second (not (out (i + 1))) (not (out (i + 2))) two-kept),
         )
 
-    narrow : (q : Piece) → Lies b q → Kept keep q → Lies c q
+    narrow : (q : Piece) → Lies b q → Kept out q → Lies c q
     narrow (two i) (l, h) k = held-narrow i l h k
     narrow (three i) (l, h) k = held-narrow i l h k
     narrow (run i) (l, h) (k, k1, k2) =
-        let last = keep (i + 1) && keep (i + 2) in (
+        let last = not (out (i + 1)) && not (out (i + 2)) in (
           omega (arith, less .all),
           subst T (sym (less .starts i (omega arith)))
-              (and-both (b .starts i) (keep i && last) h (and-both (keep i) last k (and-both (keep (i + 1)) (keep (i + 2)) k1 k2))),
+              (and-both (b .starts i) (not (out i) && last) h (and-both (not (out i)) last k (and-both (not (out (i + 1))) (not (out (i + 2))) k1 k2))),
         )
 
     zeros : replicate {A = ℕ} (c .kinds) 0 ≡ replicate (b .kinds) 0
     zeros = ap (λ (n : ℕ). replicate n 0) (less .all)
 
-    built-wide : {p m : ℕ} {t : List ℕ} → Built c p m t → Built b p m t × Only keep t
+    built-wide : {p m : ℕ} {t : List ℕ} → Built c p m t → Built b p m t × Without out t
     built-wide =
-        built-ind (λ p m t. Built b p m t × Only keep t) (built-as nothing refl refl (sym zeros), λ i n. zeros-at (c .kinds) i)
+        built-ind (λ p m t. Built b p m t × Without out t) (built-as nothing refl refl (sym zeros), λ i n. zeros-at (c .kinds) i)
         (λ p m t q f r (x, only).
         let (g, k) = wide q f in
         (lay q g x, λ i n. put-off t q k i n ∙ only i n))
 
-    built-narrow : {p m : ℕ} {t : List ℕ} → Built b p m t → Only keep t → Built c p m t
+    built-narrow : {p m : ℕ} {t : List ℕ} → Built b p m t → Without out t → Built c p m t
     built-narrow =
-        built-ind (λ p m t. Only keep t → Built c p m t) (λ only. built-as nothing refl refl zeros)
+        built-ind (λ p m t. Without out t → Built c p m t) (λ only. built-as nothing refl refl zeros)
         (λ p m t q f r x only.
         lay q (narrow q f (put-kept b t q f (built-length r) only)) (x (λ i n. omega (arith, only i n, put-within t q i))))
 
-    pub narrow-target : {p m : ℕ} {t : List ℕ} → Target c p m t ↔ (Target b p m t × Only keep t)
+    pub narrow-target : {p m : ℕ} {t : List ℕ} → Target c p m t ↔ (Target b p m t × Without out t)
     narrow-target = (
       λ tg. let (x, only) = built-wide (tg .built) in (record { built = x; few = tg .few }, only),
       λ (tg, only). record { built = built-narrow (tg .built) only; few = tg .few },
     )
 
 -- that c is narrower, by a computed test
+abbrev kept : (ℕ → Bool) → (ℕ → Bool) → ℕ → Bool
+kept out held i = held i && not (out i)
+
 abbrev runs : (ℕ → Bool) → Board → ℕ → Bool
-runs keep b i = b .starts i && (keep i && (keep (i + 1) && keep (i + 2)))
+runs out b i = b .starts i && (not (out i) && (not (out (i + 1)) && not (out (i + 2))))
 
-abbrev narrowerAt : (ℕ → Bool) → Board → Board → ℕ → Bool
-narrowerAt keep c b i = Bool·beq (c .held i) (b .held i && keep i) && Bool·beq (c .starts i) (runs keep b i)
-
-by-test : (keep : ℕ → Bool) (c b : Board) → c .kinds ≡ b .kinds → T (allTo (b .kinds) (narrowerAt keep c b)) → Narrower keep c b
-by-test keep c b e h =
+by-test : (out : ℕ → Bool) (c b : Board) → c .kinds ≡ b .kinds → T (allTo (b .kinds) (λ i. Bool·beq (c .held i) (kept out (b .held) i)))
+    → T (allTo (b .kinds) (λ i. Bool·beq (c .starts i) (runs out b i))) → Narrower out c b
+by-test out c b e held starts =
     record {
       all = e;
-      held = λ i l. equal (c .held i) (b .held i && keep i) (and-first (Bool·beq (c .held i) (b .held i && keep i)) (starts i) (at i l));
-      starts = λ i l. equal (c .starts i) (runs keep b i) (and-second (Bool·beq (c .held i) (b .held i && keep i)) (starts i) (at i l));
+      held = λ i l. equal (c .held i) (kept out (b .held) i) (all-to (b .kinds) (λ i. Bool·beq (c .held i) (kept out (b .held) i)) held i l);
+      starts = λ i l. equal (c .starts i) (runs out b i) (all-to (b .kinds) (λ i. Bool·beq (c .starts i) (runs out b i)) starts i l);
     }
-  where
-    starts : ℕ → Bool
-    starts i = Bool·beq (c .starts i) (runs keep b i)
-
-    at : (i : ℕ) → i < b .kinds → T (narrowerAt keep c b i)
-    at = all-to (b .kinds) (narrowerAt keep c b) h
 
 -- ---- without index 1 to 7
 
-abbrev outer : ℕ → Bool
-outer i = not (leb 1 i && leb i 7)
+abbrev inner : ℕ → Bool
+inner i = leb 1 i && leb i 7
 
 -- none of index 1 to 7 is held
 abbrev pub Outer : List ℕ → Type 0
 Outer t = (i : ℕ) → 1 ≤ i → i ≤ 7 → getD t i 0 ≡ 0
 
-dropped : (i : ℕ) → 1 ≤ i → i ≤ 7 → T (not (outer i))
-dropped i l g = not-T (outer i) (λ k. T-not (leb 1 i && leb i 7) k (and-both (leb 1 i) (leb i 7) (le→leb 1 i l) (le→leb i 7 g)))
-
-kept : (i : ℕ) → T (not (outer i)) → T (leb 1 i && leb i 7)
-kept i n = ⊎-elim (λ k. k) (λ k. absurd (T-not (outer i) n k)) (passes-or-fails (leb 1 i && leb i 7))
-
-module _ {c b : Board} (less : Narrower outer c b) where
+module _ {c b : Board} (less : Narrower inner c b) where
   outer-target : (p m : ℕ) (t : List ℕ) → Target c p m t ↔ (Target b p m t × Outer t)
   outer-target p m t = (
-    λ tg. let (x, only) = narrow-target outer less .0 tg in (x, λ i l g. only i (dropped i l g)),
+    λ tg.
+        let (x, none) = narrow-target inner less .0 tg in
+        (x, λ i l g. none i (and-both (leb 1 i) (leb i 7) (le→leb 1 i l) (le→leb i 7 g))),
     λ (tg, none).
-        narrow-target outer less .1 (
-          tg,
-          λ i n. none i (leb→le 1 i (and-first (leb 1 i) (leb i 7) (kept i n))) (leb→le i 7 (and-second (leb 1 i) (leb i 7) (kept i n))),
-        ),
+        narrow-target inner less .1
+        (tg, λ i o. none i (leb→le 1 i (and-first (leb 1 i) (leb i 7) o)) (leb→le i 7 (and-second (leb 1 i) (leb i 7) o))),
   )
 
 -- game 3 is game 4 without 2m to 8m
 pub three-player : (p m : ℕ) (t : List ℕ) → Target whole3 p m t ↔ (Target whole4 p m t × Outer t)
-three-player = outer-target (by-test outer whole3 whole4 refl tt)
+three-player = outer-target (by-test inner whole3 whole4 refl tt tt)
 
 -- 1m/9m are nine ranks without the inner ones
 pub ends-ranks : (p m : ℕ) (t : List ℕ) → Target ends p m t ↔ (Target ranks p m t × Outer t)
-ends-ranks = outer-target (by-test outer ends ranks refl tt)
+ends-ranks = outer-target (by-test inner ends ranks refl tt tt)
