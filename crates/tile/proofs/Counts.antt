@@ -4,11 +4,11 @@ use mathlib.Core.Path.{_≡_, refl, ap}
 use mathlib.Core.Logic.{⊎-elim, _≢_}
 use mathlib.Core.List.{List, [], _∷_}
 use Prim.Native.Nat.{ℕ, zero, suc, _+_, _-_, _*_, _≤_, _<_}
-use native.Mathlib.Nat.{le-refl}
+use native.Mathlib.Nat.{add-zero, add-assoc, le-refl}
 use native.Mathlib.Numerals.{add-one}
 use native.Mathlib.Omega.{arith}
 use lib.ListN.{length, getD, replicate, length-set, List·getD-eq-default}
-use lib.Seq.{getD-set-same, getD-set-other}
+use lib.Seq.{getD-set-same, getD-set-other, set-getD}
 use lib.Dec.{T, leb, leb→le}
 use Rattle.tile.specs.Count.{copies, Few, more, sumTo, lackTo}
 use Rattle.tile.proofs.Tests.{at-most-or-over, allTo, all-to}
@@ -52,6 +52,25 @@ more-most (x ∷ t) zero c zero = le-refl (x + c)
 more-most (x ∷ t) zero c (suc j) = omega arith
 more-most (x ∷ t) (suc i) c zero = omega arith
 more-most (x ∷ t) (suc i) c (suc j) = more-most t i c j
+
+-- none more is the same, more and again more is more at once, and the order does not matter
+pub more-none : (t : List ℕ) (i : ℕ) → more t i 0 ≡ t
+unfolding more
+more-none t i = rw add-zero (set-getD t i 0)
+
+pub more-more : (t : List ℕ) (i a c : ℕ) → more (more t i a) i c ≡ more t i (a + c)
+unfolding more
+more-more [] i a c = refl
+more-more (x ∷ t) zero a c = ap (λ (y : ℕ). y ∷ t) (add-assoc x a c)
+more-more (x ∷ t) (suc i) a c = ap (λ (u : List ℕ). x ∷ u) (more-more t i a c)
+
+pub more-swap : (t : List ℕ) (i a j c : ℕ) → more (more t i a) j c ≡ more (more t j c) i a
+unfolding more
+more-swap [] i a j c = refl
+more-swap (x ∷ t) zero a zero c = ap (λ (y : ℕ). y ∷ t) (omega arith)
+more-swap (x ∷ t) zero a (suc j) c = refl
+more-swap (x ∷ t) (suc i) a zero c = refl
+more-swap (x ∷ t) (suc i) a (suc j) c = ap (λ (u : List ℕ). x ∷ u) (more-swap t i a j c)
 
 -- ---- the sum
 
@@ -108,6 +127,12 @@ pub lack-few : (n : ℕ) (t h : List ℕ) → Few t → lackTo n t h ≤ copies 
 unfolding lackTo
 lack-few zero t h few = le-refl 0
 lack-few (suc n) t h few = omega (arith, lack-few n t h few, few n)
+
+-- a target within another lacks no more
+pub lack-within : (n : ℕ) (t u h : List ℕ) → Within t u → lackTo n t h ≤ lackTo n u h
+unfolding lackTo
+lack-within zero t u h w = le-refl 0
+lack-within (suc n) t u h w = omega (arith, lack-within n t u h w, w n)
 
 -- nothing is lacked exactly where the hand holds the target
 pub lack-none : (n : ℕ) (t h : List ℕ) → ((i : ℕ) → i < n → getD t i 0 ≤ getD h i 0) → lackTo n t h ≡ 0

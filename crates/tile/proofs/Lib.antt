@@ -8,6 +8,7 @@ pub mod Beside
 -- theorems about the definitions
 pub mod Unique
 pub mod Size
+pub mod Suit
 pub mod Sense
 pub mod Whole
 pub mod Places

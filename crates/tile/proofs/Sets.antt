@@ -1,16 +1,17 @@
--- Laws of sets as numbers: a set is known by its members, and what the set of a test holds.
+-- Laws of sets as numbers: a set is known by its members; what the set of a test holds, and what a union holds.
 -- Assumes nothing.
 use mathlib.Core.Path.{_≡_, refl, sym, ap, _∙_}
-use mathlib.Core.Logic.{_↔_, ⊎-elim}
+use mathlib.Core.Logic.{_↔_, _⊎_, inl, inr, ⊎-elim, ⊎-map}
 use mathlib.Core.Bool.{Bool, true, false}
 use mathlib.Core.List.{List}
-use Prim.Native.Nat.{ℕ, zero, suc, _+_, _-_, _*_, _/_, _%_, _^_, _≤_, _<_}
+use Prim.Native.Nat.{ℕ, zero, suc, _+_, _-_, _*_, _/_, _%_, _^_, _≤_, _<_, max}
 use native.Mathlib.Nat.{add-mul-div-right, div-eq-of-lt, pow-suc, div-div-eq-div-mul, mul-le-mul-right, mod-lt, div-one}
 use native.Mathlib.Numerals.{add-one}
 use native.Mathlib.Omega.{arith}
 use lib.ListN.{getD}
 use lib.Dec.{T, ltb, ltb→lt, lt→ltb}
 use lib.Pow.{pow-pos, pow-add}
+use lib.Bits.{bitOr, or-lt, or-step, or-shr}
 use Rattle.tile.specs.Count.{bit, setTo, beyondTo, Has}
 use Rattle.tile.specs.Answer.{Exactly}
 use Rattle.tile.proofs.Tests.{at-most-or-over}
@@ -121,3 +122,20 @@ pub exactly-beyond : (n : ℕ) (t h : List ℕ) → Exactly n (beyondTo n t h) (
 unfolding beyondTo
 exactly-beyond n t h =
     exactly-as (λ i. ltb→lt (getD h i 0) (getD t i 0)) (λ i. lt→ltb (getD h i 0) (getD t i 0)) (exactly-test (λ i. ltb (getD h i 0) (getD t i 0)) n)
+
+or-bit : (a b i : ℕ) → (bitOr a b / 2 ^ i) % 2 ≡ max ((a / 2 ^ i) % 2) ((b / 2 ^ i) % 2)
+or-bit a b i = rw or-shr (omega (arith, or-step (a / 2 ^ i) (b / 2 ^ i)))
+
+one-of : (u v : ℕ) → max u v ≡ 1 → (u ≡ 1) ⊎ (v ≡ 1)
+one-of zero v e = inr (omega arith)
+one-of (suc u) v e = inl (omega arith)
+
+-- a union has exactly the kinds of either set
+pub exactly-or : {n s t : ℕ} {P Q : ℕ → Type 0} → Exactly n s P → Exactly n t Q → Exactly n (bitOr s t) (λ i. P i ⊎ Q i)
+unfolding Has
+exactly-or {n} {s} {t} a b =
+    record {
+      small = or-lt n s t (a .small) (b .small);
+      sound = λ i l e. ⊎-map (a .sound i l) (b .sound i l) (one-of ((s / 2 ^ i) % 2) ((t / 2 ^ i) % 2) (sym (or-bit s t i) ∙ e));
+      complete = λ i l. ⊎-elim (λ p. omega (arith, or-bit s t i, a .complete i l p)) (λ q. omega (arith, or-bit s t i, b .complete i l q));
+    }

@@ -1,8 +1,8 @@
--- Tests: two at once, one for all numbers below a bound, and which of two numbers is the larger.
+-- Tests: a choice by one, two at once, one for all numbers below a bound, and which of two numbers is the larger.
 -- Assumes nothing.
 use mathlib.Core.Path.{_≡_, refl, subst}
 use mathlib.Core.Logic.{_⊎_, inl, inr, ⊎-elim}
-use mathlib.Core.Bool.{Bool, true, false, not, _&&_, _||_, Bool·beq}
+use mathlib.Core.Bool.{Bool, true, false, cond, not, _&&_, _||_, Bool·beq}
 use Prim.Native.Nat.{ℕ, zero, suc, _≤_, _<_}
 use native.Mathlib.Omega.{arith}
 use lib.Dec.{T, eqb, eqb-refl}
@@ -16,6 +16,11 @@ pub passes-or-fails : (b : Bool) → T b ⊎ T (not b)
 passes-or-fails true = inl tt
 passes-or-fails false = inr tt
 
+-- what holds of either value, where the test picks it, holds of the value picked
+pub by-test : {A : Type 0} (P : A → Type 0) (b : Bool) {x y : A} → (T b → P x) → (T (not b) → P y) → P (cond b x y)
+by-test P true f g = f tt
+by-test P false f g = g tt
+
 pub and-first : (a b : Bool) → T (a && b) → T a
 and-first true b h = tt
 and-first false b h = h
@@ -27,6 +32,11 @@ and-second false b h = absurd h
 pub and-both : (a b : Bool) → T a → T b → T (a && b)
 and-both true b x y = y
 and-both false b x y = x
+
+-- two tests that do not both pass: where the first does, the second fails
+pub and-fails : (a b : Bool) → T (not (a && b)) → T a → T (not b)
+and-fails true b h x = h
+and-fails false b h x = absurd x
 
 -- `not a || b` says that b passes wherever a does
 pub implied : (a b : Bool) → T (not a || b) → T a → T b

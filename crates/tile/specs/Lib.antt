@@ -7,4 +7,5 @@ pub mod Count
 pub mod Board
 pub mod Target
 pub mod Answer
+pub mod Suit
 pub mod Suits

@@ -2,10 +2,11 @@
 -- Choice 3s + 2q + p has s sequences, q triplets and p pairs; without a sequence that is one of the first three.
 -- Assumes nothing.
 use mathlib.Core.Path.{_≡_}
-use mathlib.Core.Bool.{Bool, not, _||_}
+use mathlib.Core.Bool.{Bool, true, false, cond, not, _||_}
 use Prim.Native.Nat.{ℕ, _+_, _*_, _≤_, _<_}
 use native.Mathlib.Omega.{arith}
 use lib.Dec.{T, leb, eqb, leb→le, le→leb, eqb→eq}
+use Rattle.tile.specs.Count.{bit}
 use Rattle.tile.proofs.Tests.{implied, allTo, all-to}
 use Rattle.walk.specs.Choice.{sequencesOf, tripletsOf, pairsOf, meldsOf, tilesOf}
 
@@ -48,9 +49,15 @@ module _ (s q p : ℕ) (two : s ≤ 2) (one : p ≤ 1) (four : s + 3 * q + 2 * p
       }
 
 -- the entries are small
-module _ (c : ℕ) (l : c < 8) where
-  most-at : (f : ℕ → ℕ) (k : ℕ) → T (allTo 8 (λ c. leb (f c) k)) → f c ≤ k
-  most-at f k all = leb→le (f c) k (all-to 8 (λ c. leb (f c) k) all c l)
+module _ (n c : ℕ) (l : c < n) where
+  most-at : (f : ℕ → ℕ) (k : ℕ) → T (allTo n (λ c. leb (f c) k)) → f c ≤ k
+  most-at f k all = leb→le (f c) k (all-to n (λ c. leb (f c) k) all c l)
 
-  pub choice-small : (sequencesOf c ≤ 2) × (tripletsOf c ≤ 1) × (pairsOf c ≤ 1)
-  choice-small = (most-at sequencesOf 2 tt, most-at tripletsOf 1 tt, most-at pairsOf 1 tt)
+pub choice-small : (c : ℕ) → c < 8 → (sequencesOf c ≤ 2) × (tripletsOf c ≤ 1) × (pairsOf c ≤ 1)
+choice-small c l = (most-at 8 c l sequencesOf 2 tt, most-at 8 c l tripletsOf 1 tt, most-at 8 c l pairsOf 1 tt)
+
+-- where no sequence may start: one pair or one triplet if the rank may be held, else nothing
+pub choice-flat : (held : Bool) (c : ℕ) → c < cond held 3 1 → (sequencesOf c ≤ 0) × (pairsOf c + meldsOf c ≤ bit held)
+unfolding bit
+choice-flat true c l = (most-at 3 c l sequencesOf 0 tt, most-at 3 c l (λ c. pairsOf c + meldsOf c) 1 tt)
+choice-flat false c l = (most-at 1 c l sequencesOf 0 tt, most-at 1 c l (λ c. pairsOf c + meldsOf c) 0 tt)

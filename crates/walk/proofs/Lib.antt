@@ -1,1 +1,14 @@
+-- From the choices to the theorem: a walk's ends (Leaf) are the targets (Sound, Complete), what it finds is the best of its ends (Best, Adds),
+-- and so its answer is right (Right). Steps, Skips and Longer are what code needs of the walk.
 pub mod Choice
+pub mod Spread
+pub mod Leaf
+pub mod Laid
+pub mod Sound
+pub mod Complete
+pub mod Room
+pub mod Steps
+pub mod Best
+pub mod Adds
+pub mod Right
+pub mod Longer

@@ -1,0 +1,101 @@
+-- Every leaf of the walk is a target: each choice is laid meld by meld, and fits into four tiles of its rank.
+-- Assumes nothing.
+use mathlib.Core.Path.{_≡_, refl, sym, ap, ap₂, _∙_}
+use mathlib.Core.Logic.{⊎-elim}
+use mathlib.Core.Bool.{Bool, true, false, cond}
+use mathlib.Core.List.{List}
+use Prim.Native.Nat.{ℕ, zero, suc, _+_, _≤_, _<_}
+use native.Mathlib.Omega.{arith}
+use lib.ListN.{getD, replicate, List·getD-eq-default}
+use lib.Dec.{T}
+use Rattle.tile.specs.Count.{copies, bit}
+use Rattle.tile.specs.Board.{Board}
+use Rattle.tile.specs.Target.{Built, Target}
+use Rattle.tile.specs.Target.Built.{nothing}
+use Rattle.tile.proofs.Tests.{at-most-or-over}
+use Rattle.tile.proofs.Counts.{more-most, more-off}
+use Rattle.tile.proofs.Built.{lay, built-as, built-length}
+use Rattle.tile.proofs.Built.Piece.{two, three, run}
+use Rattle.walk.specs.Choice.{sequencesOf, tripletsOf, pairsOf, tilesOf}
+use Rattle.walk.specs.Walk.{laid}
+use Rattle.walk.proofs.Choice.{choice-flat}
+use Rattle.walk.proofs.Leaf.{Leaf, of-fits}
+use Rattle.walk.proofs.Spread.{spread, spread-none, spread-here, spread-add, spread-before}
+use Rattle.walk.proofs.Laid.{tilesIn}
+
+-- where sequences start, their three kinds are on the board and may be held
+pub record Sane (b : Board) : Type 0 where
+  pub inside : (i : ℕ) → T (b .starts i) → i + 2 < b .kinds
+  pub first : (i : ℕ) → T (b .starts i) → T (b .held i)
+  pub second : (i : ℕ) → T (b .starts i) → T (b .held (i + 1))
+  pub third : (i : ℕ) → T (b .starts i) → T (b .held (i + 2))
+
+-- ---- a choice, meld by meld
+
+module _ {b : Board} (sane : Sane b) (i : ℕ) (l : i < b .kinds) {p m : ℕ} {t : List ℕ} where
+  spread-built : (s q d : ℕ) → (0 < s → T (b .starts i)) → (0 < q + d → T (b .held i)) → Built b p m t
+      → Built b (d + p) (s + q + m) (spread t i (tilesIn s q d) s)
+  unfolding spread
+  spread-built zero zero zero starting holding r = built-as r (omega arith) (omega arith) (sym (spread-none t i))
+  spread-built zero zero (suc d) starting holding r =
+      let h = holding (omega arith) in
+      built-as (lay (two i) (l, h) (spread-built zero zero d starting (λ x. h) r)) (omega arith) (omega arith)
+      (spread-here t i (tilesIn 0 0 d) 0 2 ∙ ap (λ (x : ℕ). spread t i x 0) (omega arith))
+  spread-built zero (suc q) d starting holding r =
+      let h = holding (omega arith) in
+      built-as (lay (three i) (l, h) (spread-built zero q d starting (λ x. h) r)) (omega arith) (omega arith)
+      (spread-here t i (tilesIn 0 q d) 0 3 ∙ ap (λ (x : ℕ). spread t i x 0) (omega arith))
+  spread-built (suc s) q d starting holding r =
+      let h = starting (omega arith) in
+      built-as (lay (run i) (sane .inside i h, h) (spread-built s q d (λ x. h) holding r)) (omega arith) (omega arith)
+      (spread-add t i (tilesIn s q d) s 1 1 ∙ ap₂ (spread t i) (omega arith) (omega arith))
+
+-- ---- what is tried at a rank may be laid there
+
+starts-there : (starts held : Bool) (c : ℕ) → c < cond starts 8 (cond held 3 1) → 0 < sequencesOf c → T starts
+starts-there true held c l z = tt
+starts-there false held c l z = omega (arith, choice-flat held c l)
+
+holds-there : (starts held : Bool) (c : ℕ) → (T starts → T held) → c < cond starts 8 (cond held 3 1) → 0 < tripletsOf c + pairsOf c → T held
+unfolding bit
+holds-there true held c f l z = f tt
+holds-there false true c f l z = tt
+holds-there false false c f l z = omega (arith, choice-flat false c l)
+
+-- ---- a leaf
+
+-- a rank that has been passed holds at most four tiles: what fits makes no more, and no later choice adds any there
+spread-few : (t : List ℕ) (i x s : ℕ) → ((j : ℕ) → j < i → getD t j 0 ≤ copies) → getD t i 0 + x ≤ copies
+    → (j : ℕ) → j < i + 1 → getD (spread t i x s) j 0 ≤ copies
+spread-few t i x s few fit j l =
+    let same = spread-before t i x s j (omega arith) in
+    ⊎-elim (λ (over : i ≤ j). let e : j ≡ i = omega arith in omega (arith, more-most t i x j, ap (λ (k : ℕ). getD t k 0) e))
+    (λ under. omega (arith, more-off t i x j (omega arith), few j under)) (at-most-or-over i j)
+
+module _ (b : Board) where
+  leaf-few : (l i p m : ℕ) (t u : List ℕ) → ((j : ℕ) → j < i → getD t j 0 ≤ copies) → Leaf b l i p m t u
+      → (j : ℕ) → j < i + l → getD u j 0 ≤ copies
+  unfolding Leaf laid spread
+  leaf-few zero i p m t u few (x, y, z) j n = rw z (few j (omega arith))
+  leaf-few (suc l) i p m t u few (c, o, (f, k)) j n =
+      leaf-few l (i + 1) _ _ _ u (spread-few t i (tilesOf c) (sequencesOf c) few (of-fits p m t i c f .tiles)) k j (omega arith)
+
+  module _ (sane : Sane b) where
+    leaf-built : (l i p m : ℕ) (t u : List ℕ) {n k : ℕ} → i + l ≡ b .kinds → Built b n k t → Leaf b l i p m t u → Built b (n + p) (k + m) u
+    unfolding Leaf laid spread
+    leaf-built zero i p m t u e r (x, y, z) = built-as r (omega arith) (omega arith) (sym z)
+    leaf-built (suc l) i p m t u e r (c, o, (f, k)) =
+        let fit = of-fits p m t i c f in
+        let starting = starts-there (b .starts i) (b .held i) c o in
+        let holding = holds-there (b .starts i) (b .held i) c (sane .first i) o in
+        let here = spread-built sane i (omega arith) (sequencesOf c) (tripletsOf c) (pairsOf c) starting holding r in
+        built-as (leaf-built l (i + 1) _ _ _ u (omega arith) here k) (omega arith) (omega arith) refl
+
+    pub leaf-target : (p m : ℕ) (u : List ℕ) → Leaf b (b .kinds) 0 p m (replicate (b .kinds) 0) u → Target b p m u
+    leaf-target p m u k =
+        let r = leaf-built (b .kinds) 0 p m _ u (omega arith) nothing k in
+        record {
+          built = built-as r (omega arith) (omega arith) refl;
+          few = λ j. ⊎-elim (λ over. omega (arith, List·getD-eq-default u 0 {n = j} (omega (arith, built-length r))))
+              (λ under. leaf-few (b .kinds) 0 p m _ u (λ j x. absurd (omega arith)) k j (omega arith)) (at-most-or-over (b .kinds) j);
+        }
