@@ -4,7 +4,7 @@ use mathlib.Core.Path.{_≡_, refl, ap}
 use mathlib.Core.Logic.{⊎-elim, _≢_}
 use mathlib.Core.List.{List, [], _∷_}
 use Prim.Native.Nat.{ℕ, zero, suc, _+_, _-_, _*_, _≤_, _<_}
-use native.Mathlib.Nat.{add-zero, add-assoc, le-refl}
+use native.Mathlib.Nat.{add-zero, add-suc, add-assoc, le-refl}
 use native.Mathlib.Numerals.{add-one}
 use native.Mathlib.Omega.{arith}
 use lib.ListN.{length, getD, replicate, length-set, List·getD-eq-default}
@@ -58,6 +58,10 @@ pub more-none : (t : List ℕ) (i : ℕ) → more t i 0 ≡ t
 unfolding more
 more-none t i = rw add-zero (set-getD t i 0)
 
+pub more-there : (t : List ℕ) (i c : ℕ) → (0 < c → i < length t) → getD (more t i c) i 0 ≡ getD t i 0 + c
+more-there t i zero l = omega (arith, ap (λ (u : List ℕ). getD u i 0) (more-none t i))
+more-there t i (suc c) l = more-at t i (suc c) (l (omega arith))
+
 pub more-more : (t : List ℕ) (i a c : ℕ) → more (more t i a) i c ≡ more t i (a + c)
 unfolding more
 more-more [] i a c = refl
@@ -88,6 +92,10 @@ sum-more (suc n) t i c l h =
     let e : i ≡ n = omega arith in
     omega (arith, sum-off n t i c over, more-at t i c h, ap (λ (k : ℕ). getD (more t i c) k 0) e, ap (λ (k : ℕ). getD t k 0) e))
     (λ under. omega (arith, sum-more n t i c under h, more-off t i c n (omega arith))) (at-most-or-over n i)
+
+pub sum-there : (n : ℕ) (t : List ℕ) (i c : ℕ) → (0 < c → i < n) → n ≤ length t → sumTo n (more t i c) ≡ sumTo n t + c
+sum-there n t i zero l e = omega (arith, ap (sumTo n) (more-none t i))
+sum-there n t i (suc c) l e = sum-more n t i (suc c) (l (omega arith)) (omega (arith, l (omega arith)))
 
 pub zeros-at : (n i : ℕ) → _≡_ {A = ℕ} (getD (replicate n 0) i 0) 0
 zeros-at zero i = refl
@@ -154,6 +162,30 @@ lack-some zero t h l = absurd (omega arith)
 lack-some (suc n) t h l =
     ⊎-elim (λ over. let (i, m, g) = lack-some n t h (omega arith) in (i, omega arith, g)) (λ under. (n, omega arith, under))
     (at-most-or-over (getD t n 0) (getD h n 0))
+
+-- the lack is of the kinds counted: the same where these are the same, no less over more kinds, no more past the last tile
+pub lack-as : (n : ℕ) (t u h k : List ℕ) → ((i : ℕ) → i < n → getD t i 0 ≡ getD u i 0) → ((i : ℕ) → i < n → getD h i 0 ≡ getD k i 0)
+    → lackTo n t h ≡ lackTo n u k
+unfolding lackTo
+lack-as zero t u h k st sh = refl
+lack-as (suc n) t u h k st sh =
+    omega (arith, lack-as n t u h k (λ i l. st i (omega arith)) (λ i l. sh i (omega arith)), st n (omega arith), sh n (omega arith))
+
+pub lack-further : (n k : ℕ) (t h : List ℕ) → lackTo n t h ≤ lackTo (n + k) t h
+unfolding lackTo
+lack-further n zero t h = rw add-zero (le-refl (lackTo n t h))
+lack-further n (suc k) t h = rw add-suc (omega (arith, lack-further n k t h))
+
+pub lack-end : (n k : ℕ) (t h : List ℕ) → ((i : ℕ) → n ≤ i → i < n + k → getD t i 0 ≡ 0) → lackTo (n + k) t h ≡ lackTo n t h
+unfolding lackTo
+lack-end n zero t h none = rw add-zero
+lack-end n (suc k) t h none = rw add-suc (omega (arith, lack-end n k t h (λ i l m. none i l (omega arith)), none (n + k) (omega arith) (omega arith)))
+
+-- what the target lacks beside all that the hand holds, and what the hand has beyond the target beside all that the target holds, are as much
+pub lack-both : (n : ℕ) (t h : List ℕ) → lackTo n t h + sumTo n h ≡ lackTo n h t + sumTo n t
+unfolding lackTo sumTo
+lack-both zero t h = refl
+lack-both (suc n) t h = omega (arith, lack-both n t h)
 
 -- one kind more, as a loop counts
 pub lack-next : (n : ℕ) (t h : List ℕ) → lackTo (n + 1) t h ≡ lackTo n t h + (getD t n 0 - getD h n 0)

@@ -5,7 +5,7 @@ use mathlib.Core.Path.{_≡_}
 use mathlib.Core.Bool.{Bool, true, false, cond, not, _||_}
 use Prim.Native.Nat.{ℕ, _+_, _*_, _≤_, _<_}
 use native.Mathlib.Omega.{arith}
-use lib.Dec.{T, leb, eqb, leb→le, le→leb, eqb→eq}
+use lib.Dec.{T, ltb, leb, eqb, ltb→lt, lt→ltb, leb→le, le→leb, eqb→eq}
 use Rattle.tile.specs.Count.{bit}
 use Rattle.tile.proofs.Tests.{implied, allTo, all-to}
 use Rattle.walk.specs.Choice.{sequencesOf, tripletsOf, pairsOf, meldsOf, tilesOf}
@@ -61,3 +61,8 @@ pub choice-flat : (held : Bool) (c : ℕ) → c < cond held 3 1 → (sequencesOf
 unfolding bit
 choice-flat true c l = (most-at 3 c l sequencesOf 0 tt, most-at 3 c l (λ c. pairsOf c + meldsOf c) 1 tt)
 choice-flat false c l = (most-at 1 c l sequencesOf 0 tt, most-at 1 c l (λ c. pairsOf c + meldsOf c) 0 tt)
+
+-- every choice but the first lays something
+pub choice-lays : (c : ℕ) → 0 < c → c < 8 → 0 < pairsOf c + meldsOf c
+choice-lays c o l = ltb→lt 0 (pairsOf c + meldsOf c) (implied (ltb 0 c) (ltb 0 (pairsOf c + meldsOf c))
+    (all-to 8 (λ c. not (ltb 0 c) || ltb 0 (pairsOf c + meldsOf c)) tt c l) (lt→ltb 0 c o))

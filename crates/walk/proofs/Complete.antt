@@ -21,7 +21,7 @@ use Rattle.walk.proofs.Spread.{spread, spread-after, spread-before, spr
 use Rattle.walk.proofs.Laid.{Part, tilesIn, Laying, First, laying-within, in-order, alike, built-laid}
 use Rattle.walk.proofs.Laid.Laying.{done, next}
 use Rattle.walk.proofs.Laid.First.{first}
-use Rattle.walk.proofs.Sound.{Sane}
+use Rattle.walk.proofs.Sane.{Sane}
 
 -- what may be laid at a rank is tried there
 among : (starts held : Bool) (s q d : ℕ) → s ≤ 2 → tilesIn s q d ≤ copies → (0 < s → T starts) → (0 < q + d → T held)

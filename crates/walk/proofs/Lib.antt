@@ -4,6 +4,7 @@ pub mod Choice
 pub mod Spread
 pub mod Leaf
 pub mod Laid
+pub mod Sane
 pub mod Sound
 pub mod Complete
 pub mod Room
@@ -11,4 +12,7 @@ pub mod Steps
 pub mod Best
 pub mod Adds
 pub mod Right
+pub mod Skips
+pub mod Begun
+pub mod Bounds
 pub mod Longer

@@ -17,7 +17,8 @@ use Rattle.tile.proofs.Counts.{zeros-at}
 use Rattle.walk.specs.Walk.{searched}
 use Rattle.walk.proofs.Best.{Best, best-start, best-same, best-answer, best-none}
 use Rattle.walk.proofs.Adds.{walk-adds}
-use Rattle.walk.proofs.Sound.{Sane, leaf-target}
+use Rattle.walk.proofs.Sane.{Sane}
+use Rattle.walk.proofs.Sound.{leaf-target}
 use Rattle.walk.proofs.Complete.{target-leaf}
 use Rattle.walk.proofs.Room.{heldIn, target-lack, leaf-some, leaf-room}
 
@@ -34,7 +35,7 @@ module _ (b : Board) (sane : Sane b) (p m : ℕ) where
     -- and only there, where no sequence starts
     none-there : ((i : ℕ) → T (b .starts i) → ⊥) → heldIn b (b .kinds) 0 < p + m → (t : List ℕ) → Target b p m t → ⊥
     none-there flat full t tg =
-        omega (arith, leaf-room b flat (b .kinds) 0 p m (replicate (b .kinds) 0) t (target-leaf b sane p m t one tg))
+        omega (arith, leaf-room b (b .kinds) 0 p m (replicate (b .kinds) 0) t (λ j x. flat j) (target-leaf b sane p m t one tg))
 
     module _ (h : List ℕ) (bound : ℕ) where
       searched-best : Best (b .kinds) h bound (Target b p m) (searched b h bound p m)

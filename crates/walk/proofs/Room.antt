@@ -12,6 +12,7 @@ use Rattle.tile.specs.Count.{bit, more, lackTo}
 use Rattle.tile.specs.Board.{Board}
 use Rattle.tile.specs.Target.{Target}
 use Rattle.tile.proofs.Counts.{more-most, more-off, lack-sum}
+use Rattle.tile.proofs.Sets.{bit-le}
 use Rattle.tile.proofs.Size.{target-size}
 use Rattle.walk.specs.Choice.{sequencesOf, pairsOf, meldsOf, tilesOf}
 use Rattle.walk.specs.Walk.{laid}
@@ -67,14 +68,20 @@ module _ (b : Board) where
       (λ j x. omega (arith, flat-after t i c j (o .flat) (omega arith), z j (omega arith))) in
       (u, (c, omega (arith, flat-tried (b .starts i) (b .held i)), (to-fits p m t i c (o .fit), k)))
 
-  -- ---- too little room: no leaf, where no sequence starts
-  module _ (flat : (i : ℕ) → T (b .starts i) → ⊥) where
-    takes : (starts held : Bool) (c : ℕ) → (T starts → ⊥) → c < cond starts 8 (cond held 3 1) → pairsOf c + meldsOf c ≤ bit held
-    takes true held c f l = absurd (f tt)
-    takes false held c f l = choice-flat held c l .1
+  -- ---- too little room: no leaf, where no sequence starts any more
 
-    pub leaf-room : (l i p m : ℕ) (t u : List ℕ) → Leaf b l i p m t u → p + m ≤ heldIn b l i
-    unfolding heldIn Leaf
-    leaf-room zero i p m t u (x, y, z) = omega arith
-    leaf-room (suc l) i p m t u (c, o, (f, k)) =
-        omega (arith, takes (b .starts i) (b .held i) c (flat i) o, of-fits p m t i c f, leaf-room l (i + 1) _ _ _ u k)
+  takes : (starts held : Bool) (c : ℕ) → (T starts → ⊥) → c < cond starts 8 (cond held 3 1) → pairsOf c + meldsOf c ≤ bit held
+  takes true held c f l = absurd (f tt)
+  takes false held c f l = choice-flat held c l .1
+
+  pub leaf-room : (l i p m : ℕ) (t u : List ℕ) → ((j : ℕ) → i ≤ j → T (b .starts j) → ⊥) → Leaf b l i p m t u → p + m ≤ heldIn b l i
+  unfolding heldIn Leaf
+  leaf-room zero i p m t u flat (x, y, z) = omega arith
+  leaf-room (suc l) i p m t u flat (c, o, (f, k)) =
+      omega (arith, takes (b .starts i) (b .held i) c (flat i (le-refl i)) o, of-fits p m t i c f, leaf-room l (i + 1) _ _ _ u (λ j x. flat j (omega arith)) k)
+
+  -- there is no more room than there are ranks
+  pub held-most : (l i : ℕ) → heldIn b l i ≤ l
+  unfolding heldIn
+  held-most zero i = omega arith
+  held-most (suc l) i = omega (arith, held-most l (i + 1), bit-le (b .held i))

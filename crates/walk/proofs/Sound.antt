@@ -2,13 +2,12 @@
 -- Assumes nothing.
 use mathlib.Core.Path.{_≡_, refl, sym, ap, ap₂, _∙_}
 use mathlib.Core.Logic.{⊎-elim}
-use mathlib.Core.Bool.{Bool, true, false, cond}
 use mathlib.Core.List.{List}
 use Prim.Native.Nat.{ℕ, zero, suc, _+_, _≤_, _<_}
 use native.Mathlib.Omega.{arith}
 use lib.ListN.{getD, replicate, List·getD-eq-default}
 use lib.Dec.{T}
-use Rattle.tile.specs.Count.{copies, bit}
+use Rattle.tile.specs.Count.{copies}
 use Rattle.tile.specs.Board.{Board}
 use Rattle.tile.specs.Target.{Built, Target}
 use Rattle.tile.specs.Target.Built.{nothing}
@@ -18,17 +17,10 @@ use Rattle.tile.proofs.Built.{lay, built-as, built-length}
 use Rattle.tile.proofs.Built.Piece.{two, three, run}
 use Rattle.walk.specs.Choice.{sequencesOf, tripletsOf, pairsOf, tilesOf}
 use Rattle.walk.specs.Walk.{laid}
-use Rattle.walk.proofs.Choice.{choice-flat}
+use Rattle.walk.proofs.Sane.{Sane, starts-there, holds-there}
 use Rattle.walk.proofs.Leaf.{Leaf, of-fits}
 use Rattle.walk.proofs.Spread.{spread, spread-none, spread-here, spread-add, spread-before}
 use Rattle.walk.proofs.Laid.{tilesIn}
-
--- where sequences start, their three kinds are on the board and may be held
-pub record Sane (b : Board) : Type 0 where
-  pub inside : (i : ℕ) → T (b .starts i) → i + 2 < b .kinds
-  pub first : (i : ℕ) → T (b .starts i) → T (b .held i)
-  pub second : (i : ℕ) → T (b .starts i) → T (b .held (i + 1))
-  pub third : (i : ℕ) → T (b .starts i) → T (b .held (i + 2))
 
 -- ---- a choice, meld by meld
 
@@ -49,18 +41,6 @@ module _ {b : Board} (sane : Sane b) (i : ℕ) (l : i < b .kinds) {p m : ℕ} {t
       let h = starting (omega arith) in
       built-as (lay (run i) (sane .inside i h, h) (spread-built s q d (λ x. h) holding r)) (omega arith) (omega arith)
       (spread-add t i (tilesIn s q d) s 1 1 ∙ ap₂ (spread t i) (omega arith) (omega arith))
-
--- ---- what is tried at a rank may be laid there
-
-starts-there : (starts held : Bool) (c : ℕ) → c < cond starts 8 (cond held 3 1) → 0 < sequencesOf c → T starts
-starts-there true held c l z = tt
-starts-there false held c l z = omega (arith, choice-flat held c l)
-
-holds-there : (starts held : Bool) (c : ℕ) → (T starts → T held) → c < cond starts 8 (cond held 3 1) → 0 < tripletsOf c + pairsOf c → T held
-unfolding bit
-holds-there true held c f l z = f tt
-holds-there false true c f l z = tt
-holds-there false false c f l z = omega (arith, choice-flat false c l)
 
 -- ---- a leaf
 

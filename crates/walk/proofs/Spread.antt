@@ -1,12 +1,13 @@
 -- Tiles laid at a rank and at the two ranks after it: what a rank's sequences, triplets and pairs make of a target, however many they are.
 -- Assumes nothing.
-use mathlib.Core.Path.{_≡_, _∙_}
+use mathlib.Core.Path.{_≡_, ap, _∙_}
 use mathlib.Core.List.{List}
-use Prim.Native.Nat.{ℕ, _+_, _≤_}
+use Prim.Native.Nat.{ℕ, _+_, _≤_, _<_}
+use native.Mathlib.Nat.{le-refl}
 use native.Mathlib.Omega.{arith}
 use lib.ListN.{length, getD}
 use Rattle.tile.specs.Count.{more}
-use Rattle.tile.proofs.Counts.{Within, length-more, more-off, more-within, more-none, more-more, more-swap}
+use Rattle.tile.proofs.Counts.{Within, length-more, more-there, more-off, more-within, more-none, more-more, more-swap}
 
 -- x tiles at rank i, and s at each of the two ranks after it
 unfoldable pub spread : List ℕ → ℕ → ℕ → ℕ → List ℕ
@@ -55,6 +56,35 @@ spread-length t i x s = simp length-more
 pub spread-before : (t : List ℕ) (i x s j : ℕ) → j ≤ i → getD (spread t i x s) j 0 ≡ getD (more t i x) j 0
 unfolding spread
 spread-before t i x s j l = more-off (more (more t i x) (i + 1) s) (i + 2) s j (omega arith) ∙ more-off (more t i x) (i + 1) s j (omega arith)
+
+-- what each count then is
+module _ (t : List ℕ) (i x s : ℕ) where
+  pub spread-at : (0 < x → i < length t) → getD (spread t i x s) i 0 ≡ getD t i 0 + x
+  spread-at l = spread-before t i x s i (le-refl i) ∙ more-there t i x l
+
+  pub spread-next : (0 < s → i + 1 < length t) → getD (spread t i x s) (i + 1) 0 ≡ getD t (i + 1) 0 + s
+  unfolding spread
+  spread-next l =
+      let u = more t i x in
+      more-off (more u (i + 1) s) (i + 2) s (i + 1) (omega arith) ∙ more-there u (i + 1) s (λ o. omega (arith, length-more t i x, l o))
+      ∙ ap (λ (k : ℕ). k + s) (more-off t i x (i + 1) (omega arith))
+
+  pub spread-third : (0 < s → i + 2 < length t) → getD (spread t i x s) (i + 2) 0 ≡ getD t (i + 2) 0 + s
+  unfolding spread
+  spread-third l =
+      let u = more t i x in
+      let v = more u (i + 1) s in
+      more-there v (i + 2) s (λ o. omega (arith, length-more t i x, length-more u (i + 1) s, l o))
+      ∙ ap (λ (k : ℕ). k + s) (more-off u (i + 1) s (i + 2) (omega arith) ∙ more-off t i x (i + 2) (omega arith))
+
+  pub spread-beyond : (j : ℕ) → i + 2 < j → getD (spread t i x s) j 0 ≡ getD t j 0
+  unfolding spread
+  spread-beyond j l =
+      let u = more t i x in
+      more-off (more u (i + 1) s) (i + 2) s j (omega arith) ∙ more-off u (i + 1) s j (omega arith) ∙ more-off t i x j (omega arith)
+
+  pub spread-earlier : (j : ℕ) → j < i → getD (spread t i x s) j 0 ≡ getD t j 0
+  spread-earlier j l = spread-before t i x s j (omega arith) ∙ more-off t i x j (omega arith)
 
 pub spread-within : (t : List ℕ) (i x s : ℕ) → Within t (spread t i x s)
 unfolding spread
