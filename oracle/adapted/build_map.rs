@@ -5,6 +5,9 @@
 // changed: the path says where the unchanged search stands.
 #[path = "../verbatim/xtask/src/build_map/replacement_number.rs"]
 mod replacement_number;
+// changed: added, so that the search can be asked for one goal with nothing packed.
+#[path = "../src/searched.rs"]
+pub mod searched;
 
 // changed: the imports of what writes the maps are gone (File, io, Path, process).
 

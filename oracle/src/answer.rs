@@ -1,4 +1,5 @@
-//! The answer for an accepted hand (document 01, "What a target is").
+//! The answer for an accepted hand, or for a goal of an accepted suit (document 01, "What a
+//! target is" and "One suit").
 
 use crate::hand::Hand;
 

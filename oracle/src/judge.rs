@@ -4,13 +4,16 @@
 
 mod board;
 mod hand;
+mod suit;
 mod targets;
 mod walk;
 
 pub use board::{BOARDS, Board, ENDS, HONOURS, RANKS, WHOLE_FOUR, WHOLE_THREE};
 pub use hand::answer;
+pub use suit::{board, suit_answer};
 pub use targets::{print_counts, targets};
 
+use crate::answer::Answer;
 use walk::{Pieces, Walk};
 
 /// The number a suit gives for a goal without a target (document 01, "One suit").
@@ -22,6 +25,16 @@ pub struct Verdict {
     pub number: u32,
     pub necessary: u64,
     pub unnecessary: u64,
+}
+
+impl Verdict {
+    fn answer(&self) -> Answer {
+        Answer {
+            number: self.number as u8,
+            necessary: self.necessary,
+            unnecessary: self.unnecessary,
+        }
+    }
 }
 
 pub struct Judge {

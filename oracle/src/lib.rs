@@ -21,6 +21,8 @@ mod bingpai;
 #[rustfmt::skip]
 mod build_map;
 
+pub use build_map::searched;
+
 pub mod standard;
 
 // The harness.
@@ -32,6 +34,7 @@ pub mod notation;
 pub mod record;
 pub mod refusal;
 pub mod show;
+pub mod suit;
 pub mod words;
 
 // The second judge and the comparison.

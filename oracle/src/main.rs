@@ -10,16 +10,21 @@ use oracle::judge::print_counts;
 use oracle::options::Options;
 use oracle::record::answers;
 use oracle::show::show;
-use oracle::{judge, make, merged};
+use oracle::suit::question::Question;
+use oracle::suit::record::answers as suit_answers;
+use oracle::{judge, make, merged, searched};
 
 const USAGE: &str = "usage:
   oracle answer < hands > answers
   oracle judge < hands > answers
   oracle show < hands
+  oracle suits < questions > answers
+  oracle judge-suits < questions > answers
   oracle compare [--seed S] [--suits N] [--hands N] [--all-suits]
   oracle targets
   oracle make table > hands
-  oracle make hands [--seed S] [--count N] [--broken BYTES] > hands";
+  oracle make hands [--seed S] [--count N] [--broken BYTES] > hands
+  oracle make suits [--seed S] [--count N] > questions";
 
 fn main() -> ExitCode {
     let mut words = env::args().skip(1);
@@ -37,9 +42,11 @@ fn main() -> ExitCode {
 /// Says whether the command found nothing wrong.
 fn run(command: &str, mut words: impl Iterator<Item = String>) -> Result<bool, String> {
     match command {
-        "answer" => through(words, |input| answers(input, merged::answer)),
-        "judge" => through(words, |input| answers(input, judge::answer)),
-        "show" => through(words, |input| show(input).into_bytes()),
+        "answer" => through(words, |input| Ok(answers(input, merged::answer))),
+        "judge" => through(words, |input| Ok(answers(input, judge::answer))),
+        "show" => through(words, |input| Ok(show(input).into_bytes())),
+        "suits" => through(words, |input| suit_answers(input, searched::answer)),
+        "judge-suits" => through(words, |input| suit_answers(input, judge::suit_answer)),
         "compare" => run_compare(Options::new(words)),
         "targets" => {
             Options::new(words).end()?;
@@ -57,14 +64,14 @@ fn run(command: &str, mut words: impl Iterator<Item = String>) -> Result<bool, S
 /// Standard input through a function to standard output.
 fn through(
     words: impl Iterator<Item = String>,
-    function: impl Fn(&[u8]) -> Vec<u8>,
+    function: impl Fn(&[u8]) -> Result<Vec<u8>, String>,
 ) -> Result<bool, String> {
     Options::new(words).end()?;
     let mut input = Vec::new();
     io::stdin()
         .read_to_end(&mut input)
         .map_err(|error| error.to_string())?;
-    write(&function(&input))
+    write(&function(&input)?)
 }
 
 fn run_compare(mut options: Options) -> Result<bool, String> {
@@ -79,23 +86,34 @@ fn run_compare(mut options: Options) -> Result<bool, String> {
 }
 
 fn run_make(what: &str, mut options: Options) -> Result<bool, String> {
-    let (hands, broken) = match what {
-        "table" => (make::table(), 0),
-        "hands" => {
-            let seed = options.number("--seed", 1)?;
-            let count = options.number("--count", 4_000)?;
-            let broken = options.number("--broken", 0)?;
-            if broken > 35 {
-                return Err("a broken piece has at most 35 bytes".into());
-            }
-            (make::hands(seed, count as usize), broken)
-        }
+    let bytes = match what {
+        "table" => make::table().iter().flat_map(Hand::record).collect(),
+        "hands" => make_hands(&mut options)?,
+        "suits" => make_suits(&mut options)?,
         other => return Err(format!("not understood: make {other}")),
     };
     options.end()?;
+    write(&bytes)
+}
+
+fn make_hands(options: &mut Options) -> Result<Vec<u8>, String> {
+    let seed = options.number("--seed", 1)?;
+    let count = options.number("--count", 4_000)?;
+    let broken = options.number("--broken", 0)?;
+    if broken > 35 {
+        return Err("a broken piece has at most 35 bytes".into());
+    }
+    let hands = make::hands(seed, count as usize);
     let mut bytes: Vec<u8> = hands.iter().flat_map(Hand::record).collect();
     bytes.extend((0..broken).map(|_| 1));
-    write(&bytes)
+    Ok(bytes)
+}
+
+fn make_suits(options: &mut Options) -> Result<Vec<u8>, String> {
+    let seed = options.number("--seed", 1)?;
+    let count = options.number("--count", 1_500)?;
+    let questions = make::suits::suits(seed, count as usize);
+    Ok(questions.iter().flat_map(Question::record).collect())
 }
 
 fn write(bytes: &[u8]) -> Result<bool, String> {

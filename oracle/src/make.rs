@@ -1,9 +1,11 @@
-//! The seeded generator of hand records. The same seed and count give the same hands.
+//! The seeded generator of hand records, and below it that of suit questions. The same seed
+//! and count give the same hands.
 
 mod corners;
 mod deal;
 mod sorts;
 mod spoil;
+pub mod suits;
 mod table;
 
 pub use sorts::{accepted, suit};

@@ -1,1 +1,5 @@
+mod Begin
 mod Bit
+mod Faults
+mod Stepped
+mod Turn

@@ -1,23 +1,18 @@
-// How far a hand is from one target (01 "What a target is"): what the target lacks, and where the two differ.
-// Each is over the first n kinds, so that nine ranks, seven honours and 1m/9m share it.
+// How far a hand is from one target (01 "What a target is"): where the two differ, over the first n kinds, so that all suits share it.
+// What is lacked is not summed here: the search keeps it as a running number.
 ghost use mathlib.Core.Path.{_≡_};
-ghost use Rattle.tile.specs.Count.{Few, lackTo, beyondTo};
+ghost use Prim.Native.Nat.{_-_};
+ghost use Rattle.tile.specs.Count.{beyondTo};
 ghost use Rattle.suit.specs.Distance.{Spans};
 
-// What the target lacks: its tiles beyond those of the hand.
-pub(crate) fn lack(n: usize, target: &[u8], hand: &[u8]) -> u8
-    requires { ⌜ Spans n (now target) (now hand) × Few (now target) ⌝ }
-    ensures { λ r. ⌜ r ≡ lackTo n (now (target .entry)) (now (hand .entry)) ⌝ }
+// `a` less `b`, and 0 where that would be negative.
+pub(crate) fn minus(a: u8, b: u8) -> u8
+    ensures { λ r. ⌜ r ≡ a - b ⌝ }
 {
-    let mut sum: u8 = 0;
-    let mut i: usize = 0;
-    while i < n {
-        if hand[i] < target[i] {
-            sum += target[i] - hand[i];
-        }
-        i += 1;
+    if a < b {
+        return 0;
     }
-    sum
+    a - b
 }
 
 // The kinds of which `a` holds more than `b`.

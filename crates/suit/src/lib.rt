@@ -1,3 +1,9 @@
-// One suit. So far its leaves (01 "Port order", 1): the choices at a rank, the lack of a target, and the two set helpers.
+// One suit (01 "One suit"): its answer for a goal, and for the ten goals at once.
+mod aim;
+mod check;
 mod choice;
 mod distance;
+pub mod entry;
+mod join;
+mod search;
+mod task;

@@ -9,6 +9,7 @@ pub mod Beside
 pub mod Unique
 pub mod Size
 pub mod Suit
+pub mod Promise
 pub mod Sense
 pub mod Whole
 pub mod Places

@@ -7,5 +7,7 @@ pub mod Count
 pub mod Board
 pub mod Target
 pub mod Answer
+pub mod Refusal
 pub mod Suit
+pub mod Goals
 pub mod Suits

@@ -3,10 +3,16 @@
 use mathlib.Core.Path.{_≡_}
 use mathlib.Core.List.{List}
 use Prim.Native.Nat.{ℕ}
-use Rattle.tile.specs.Board.{Board}
+use Rattle.tile.specs.Board.{Board, ranks, honours, ends}
 use Rattle.tile.specs.Target.{Target}
 use Rattle.tile.specs.Answer.{Answer}
+use Rattle.tile.specs.Refusal.{First, SuitFault, mostTiles}
 use Rattle.tile.specs.declared.found.Found.{Found}
+use Rattle.tile.specs.declared.refusal.Reason.{Reason}
+use Rattle.tile.specs.declared.one_suit.Suit.{Suit}
+use Rattle.tile.specs.declared.one_suit.Suit.the-variants.{Ranks, Honours, Ends}
+use Rattle.tile.specs.declared.one_suit.SuitAnswer.{SuitAnswer}
+use Rattle.tile.specs.declared.one_suit.SuitAnswer.the-variants.{Answered, Refused}
 
 -- what stands for the answer where no target is found: the starting bound, and empty sets
 abbrev pub unfound : ℕ → Found
@@ -16,3 +22,14 @@ unfound bound = record { number = bound; necessary = 0; unnecessary = 0 }
 pub data Right (b : Board) (bound p m : ℕ) (h : List ℕ) (r : Found) : Type 0 where
   answer : Answer (b .kinds) (Target b p m) h (r .number) (r .necessary) (r .unnecessary) → Right b bound p m h r
   no-target : ((t : List ℕ) → Target b p m t → ⊥) → r ≡ unfound bound → Right b bound p m h r
+
+-- which board a suit is built on
+abbrev pub boardOf : Suit → Board
+boardOf Ranks = ranks
+boardOf Honours = honours
+boardOf Ends = ends
+
+-- what is promised for one goal: a refusal by the first fault, or the right answer where there is none
+abbrev pub Promised : Board → ℕ → ℕ → List ℕ → SuitAnswer → Type 0
+Promised b p m h (Refused q) = First (SuitFault b p m h) q
+Promised b p m h (Answered r) = ((q : Reason) → SuitFault b p m h q → ⊥) × Right b mostTiles p m h r

@@ -50,6 +50,10 @@ pub record Begun (b : Board) (i : ℕ) (t : List ℕ) : Type 0 where
   pub only : (j : ℕ) → (T (mayHold b j) → ⊥) → getD t j 0 ≡ 0
   pub long : b .kinds ≤ length t
 
+-- and so on the way to any later rank
+pub begun-later : {b : Board} {i : ℕ} {t : List ℕ} (j : ℕ) → i ≤ j → Begun b i t → Begun b j t
+begun-later j l g = record { few = λ x. omega (arith, g .few x); only = g .only; long = g .long }
+
 pub begun-few : {b : Board} {i : ℕ} {t : List ℕ} → Begun b i t → Few t
 begun-few g j = omega (arith, g .few j)
 
@@ -66,13 +70,13 @@ module _ {b : Board} {i : ℕ} {t : List ℕ} (g : Begun b i t) (c : ℕ) (o : L
   unfolding laid spread
   at = spread-at t i (tilesOf c) (sequencesOf c) (λ z. fit-in i (o .holds z))
 
-  after : getD u (i + 1) 0 ≡ getD t (i + 1) 0 + sequencesOf c
+  pub laid-next : getD u (i + 1) 0 ≡ getD t (i + 1) 0 + sequencesOf c
   unfolding laid spread
-  after = spread-next t i (tilesOf c) (sequencesOf c) (λ z. fit-in (i + 1) (o .runs z .0))
+  laid-next = spread-next t i (tilesOf c) (sequencesOf c) (λ z. fit-in (i + 1) (o .runs z .0))
 
-  last : getD u (i + 2) 0 ≡ sequencesOf c
+  pub laid-third : getD u (i + 2) 0 ≡ sequencesOf c
   unfolding laid spread
-  last = omega (arith, g .few (i + 2), spread-third t i (tilesOf c) (sequencesOf c) (λ z. fit-in (i + 2) (o .runs z .1)))
+  laid-third = omega (arith, g .few (i + 2), spread-third t i (tilesOf c) (sequencesOf c) (λ z. fit-in (i + 2) (o .runs z .1)))
 
   u-few : (j : ℕ) → getD u j 0 ≤ copies - 2 * (j - (i + 1))
   unfolding laid spread
@@ -81,8 +85,8 @@ module _ {b : Board} {i : ℕ} {t : List ℕ} (g : Begun b i t) (c : ℕ) (o : L
       go : Seen i j → getD u j 0 ≤ copies - 2 * (j - (i + 1))
       go (before l) = omega (arith, spread-earlier t i (tilesOf c) (sequencesOf c) j l, g .few j)
       go (here e) = rw e (omega (arith, at))
-      go (next e) = rw e (omega (arith, after, g .few (i + 1), choice-small c (o .eight)))
-      go (third e) = rw e (omega (arith, last, choice-small c (o .eight)))
+      go (next e) = rw e (omega (arith, laid-next, g .few (i + 1), choice-small c (o .eight)))
+      go (third e) = rw e (omega (arith, laid-third, choice-small c (o .eight)))
       go (beyond l) = omega (arith, spread-beyond t i (tilesOf c) (sequencesOf c) j l, g .few j)
 
   u-only : (j : ℕ) → (T (mayHold b j) → ⊥) → getD u j 0 ≡ 0
@@ -95,8 +99,8 @@ module _ {b : Board} {i : ℕ} {t : List ℕ} (g : Begun b i t) (c : ℕ) (o : L
       go : Seen i j → getD u j 0 ≡ 0
       go (before l) = spread-earlier t i (tilesOf c) (sequencesOf c) j l ∙ g .only j barred
       go (here e) = rw e (omega (arith, at, lays-none (tilesOf c) i e (o .holds), g .only i (rw e at barred)))
-      go (next e) = rw e (omega (arith, after, lays-none (sequencesOf c) (i + 1) e (λ z. o .runs z .0), g .only (i + 1) (rw e at barred)))
-      go (third e) = rw e (omega (arith, last, lays-none (sequencesOf c) (i + 2) e (λ z. o .runs z .1)))
+      go (next e) = rw e (omega (arith, laid-next, lays-none (sequencesOf c) (i + 1) e (λ z. o .runs z .0), g .only (i + 1) (rw e at barred)))
+      go (third e) = rw e (omega (arith, laid-third, lays-none (sequencesOf c) (i + 2) e (λ z. o .runs z .1)))
       go (beyond l) = spread-beyond t i (tilesOf c) (sequencesOf c) j l ∙ g .only j barred
 
   -- the way goes on
@@ -119,7 +123,7 @@ module _ {b : Board} {i : ℕ} {t : List ℕ} (g : Begun b i t) (c : ℕ) (o : L
         let same : lackTo (b .kinds + (i + 3)) u h ≡ lackTo (i + 3 + b .kinds) u h = ap (λ (k : ℕ). lackTo k u h) (omega arith) in
         let two : lackTo (i + 2) u h ≡ lackTo (i + 1 + 1) u h = ap (λ (k : ℕ). lackTo k u h) (omega arith) in
         let three : lackTo (i + 3) u h ≡ lackTo (i + 2 + 1) u h = ap (λ (k : ℕ). lackTo k u h) (omega arith) in
-        omega (arith, lack-passed, lack-next (i + 1) u h, lack-next (i + 2) u h, after, last)
+        omega (arith, lack-passed, lack-next (i + 1) u h, lack-next (i + 2) u h, laid-next, laid-third)
 
     -- what the hand has beyond the target at the ranks passed
     pub beyond-passed : lackTo (i + 1) h u ≡ lackTo i h t + (getD h i 0 - (getD t i 0 + tilesOf c))

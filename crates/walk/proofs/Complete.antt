@@ -14,7 +14,7 @@ use Rattle.tile.specs.Board.{Board}
 use Rattle.tile.specs.Target.{Target}
 use Rattle.tile.proofs.Tests.{at-most-or-over}
 use Rattle.tile.proofs.Counts.{more-at}
-use Rattle.walk.specs.Walk.{laid}
+use Rattle.walk.specs.Walk.{triedWhere, laid}
 use Rattle.walk.proofs.Choice.{choiceFor, no-choice-missing}
 use Rattle.walk.proofs.Leaf.{Leaf, to-fits}
 use Rattle.walk.proofs.Spread.{spread, spread-after, spread-before, spread-length}
@@ -25,7 +25,7 @@ use Rattle.walk.proofs.Sane.{Sane}
 
 -- what may be laid at a rank is tried there
 among : (starts held : Bool) (s q d : ℕ) → s ≤ 2 → tilesIn s q d ≤ copies → (0 < s → T starts) → (0 < q + d → T held)
-    → choiceFor s q d < cond starts 8 (cond held 3 1)
+    → choiceFor s q d < triedWhere starts held
 among true held s q d two four starting holding = omega arith
 among false true s q d two four starting holding = omega arith
 among false false s q d two four starting holding = omega arith

@@ -15,7 +15,7 @@ use Rattle.tile.proofs.Counts.{more-most, more-off, lack-sum}
 use Rattle.tile.proofs.Sets.{bit-le}
 use Rattle.tile.proofs.Size.{target-size}
 use Rattle.walk.specs.Choice.{sequencesOf, pairsOf, meldsOf, tilesOf}
-use Rattle.walk.specs.Walk.{laid}
+use Rattle.walk.specs.Walk.{triedWhere, laid}
 use Rattle.walk.proofs.Choice.{choice-flat}
 use Rattle.walk.proofs.Leaf.{Fits, of-fits, to-fits, Leaf}
 
@@ -45,7 +45,7 @@ flat-some true r zero (suc m) t i h z = (2, omega arith)
 flat-some true r (suc p) m t i h z = (1, omega arith)
 
 -- the choices without a sequence are tried anyway
-flat-tried : (starts held : Bool) → cond held 3 1 ≤ cond starts 8 (cond held 3 1)
+flat-tried : (starts held : Bool) → cond held 3 1 ≤ triedWhere starts held
 flat-tried true true = omega arith
 flat-tried true false = omega arith
 flat-tried false held = le-refl (cond held 3 1)
@@ -70,7 +70,7 @@ module _ (b : Board) where
 
   -- ---- too little room: no leaf, where no sequence starts any more
 
-  takes : (starts held : Bool) (c : ℕ) → (T starts → ⊥) → c < cond starts 8 (cond held 3 1) → pairsOf c + meldsOf c ≤ bit held
+  takes : (starts held : Bool) (c : ℕ) → (T starts → ⊥) → c < triedWhere starts held → pairsOf c + meldsOf c ≤ bit held
   takes true held c f l = absurd (f tt)
   takes false held c f l = choice-flat held c l .1
 

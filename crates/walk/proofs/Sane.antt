@@ -9,7 +9,7 @@ use Rattle.tile.specs.Count.{bit}
 use Rattle.tile.specs.Board.{Board, mayHold}
 use Rattle.tile.proofs.Tests.{at-most-or-over, and-both}
 use Rattle.walk.specs.Choice.{sequencesOf, tripletsOf, pairsOf, tilesOf}
-use Rattle.walk.specs.Walk.{choicesAt}
+use Rattle.walk.specs.Walk.{triedWhere, choicesAt}
 use Rattle.walk.proofs.Choice.{choice-flat}
 
 -- where sequences start, their three kinds are on the board and may be held
@@ -19,11 +19,11 @@ pub record Sane (b : Board) : Type 0 where
   pub second : (i : ℕ) → T (b .starts i) → T (b .held (i + 1))
   pub third : (i : ℕ) → T (b .starts i) → T (b .held (i + 2))
 
-pub starts-there : (starts held : Bool) (c : ℕ) → c < cond starts 8 (cond held 3 1) → 0 < sequencesOf c → T starts
+pub starts-there : (starts held : Bool) (c : ℕ) → c < triedWhere starts held → 0 < sequencesOf c → T starts
 starts-there true held c l z = tt
 starts-there false held c l z = omega (arith, choice-flat held c l)
 
-pub holds-there : (starts held : Bool) (c : ℕ) → (T starts → T held) → c < cond starts 8 (cond held 3 1) → 0 < tripletsOf c + pairsOf c → T held
+pub holds-there : (starts held : Bool) (c : ℕ) → (T starts → T held) → c < triedWhere starts held → 0 < tripletsOf c + pairsOf c → T held
 unfolding bit
 holds-there true held c f l z = f tt
 holds-there false true c f l z = tt
@@ -35,8 +35,8 @@ pub record Lays (b : Board) (i c : ℕ) : Type 0 where
   pub runs : 0 < sequencesOf c → T (mayHold b (i + 1)) × T (mayHold b (i + 2))
   pub eight : c < 8
 
-eight-tried : (starts held : Bool) (c : ℕ) → c < cond starts 8 (cond held 3 1) → c < 8
-eight-tried true held c l = l
+eight-tried : (starts held : Bool) (c : ℕ) → c < triedWhere starts held → c < 8
+eight-tried true held c l = omega arith
 eight-tried false true c l = omega arith
 eight-tried false false c l = omega arith
 

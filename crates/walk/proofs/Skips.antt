@@ -15,7 +15,7 @@ use Rattle.tile.specs.declared.found.Found.{Found}
 use Rattle.tile.proofs.Tests.{at-most-or-over, by-test, and-first, allTo, all-to}
 use Rattle.tile.proofs.Counts.{lack-within}
 use Rattle.walk.specs.Choice.{pairsOf, meldsOf}
-use Rattle.walk.specs.Walk.{choicesAt, fits, laid, upTo, join, tried, walk}
+use Rattle.walk.specs.Walk.{triedWhere, choicesAt, fits, laid, upTo, join, tried, walk}
 use Rattle.walk.proofs.Spread.{spread, spread-none}
 use Rattle.walk.proofs.Leaf.{Leaf, leaf-grows, of-fits, to-fits}
 use Rattle.walk.proofs.Choice.{choice-lays}
@@ -35,7 +35,7 @@ upTo-first f zero r still = refl
 upTo-first f (suc k) r still = still (suc k) _ (omega arith) (omega arith) ∙ upTo-first f k r (λ c s o l. still c s o (omega arith))
 
 -- of the eight choices, at least the empty one is tried
-choices-some : (starts held : Bool) → (k : ℕ) × (k < 8) × (cond starts 8 (cond held 3 1) ≡ suc k)
+choices-some : (starts held : Bool) → (k : ℕ) × (k < 8) × (triedWhere starts held ≡ suc k)
 choices-some true held = (7, omega arith, refl)
 choices-some false true = (2, omega arith, refl)
 choices-some false false = (0, omega arith, refl)

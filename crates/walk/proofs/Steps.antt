@@ -25,14 +25,14 @@ module _ (n : ℕ) (h t : List ℕ) (r : Found) where
   abbrev lack : ℕ
   lack = lackTo n t h
 
-  pub join-less : lack < r .number → join n h t r ≡ alone n h t
-  unfolding join
-  join-less l = simp lt-ltb
-
   pub join-equal : lack ≡ r .number
       → join n h t r ≡ record { number = r .number; necessary = bitOr (r .necessary) (beyondTo n t h); unnecessary = bitOr (r .unnecessary) (beyondTo n h t) }
   unfolding join
   join-equal e = simp (le-ltb lack (r .number) (omega arith), eq-eqb lack (r .number) e)
+
+  pub join-less : lack < r .number → join n h t r ≡ alone n h t
+  unfolding join
+  join-less l = simp lt-ltb
 
   pub join-more : r .number < lack → join n h t r ≡ r
   unfolding join
@@ -59,13 +59,13 @@ module _ (n : ℕ) (h : List ℕ) (deeper : ℕ → ℕ → List ℕ → Found �
       over-tiles e = simp (le-leb, lt-leb)
 
       module _ (e : getD t i 0 + tilesOf c ≤ copies) where
-        pub cut : r .number < lackTo n (laid t i c) h → result ≡ r
-        unfolding tried
-        cut f = simp (le-leb, lt-leb)
-
         pub entered : lackTo n (laid t i c) h ≤ r .number → result ≡ deeper (p - pairsOf c) (m - meldsOf c) (laid t i c) r
         unfolding tried
         entered f = simp le-leb
+
+        pub cut : r .number < lackTo n (laid t i c) h → result ≡ r
+        unfolding tried
+        cut f = simp (le-leb, lt-leb)
 
 -- ---- one rank, and the end
 

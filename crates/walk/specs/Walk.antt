@@ -13,9 +13,12 @@ use Rattle.tile.specs.Suit.{unfound}
 use Rattle.tile.specs.declared.found.Found.{Found}
 use Rattle.walk.specs.Choice.{sequencesOf, pairsOf, meldsOf, tilesOf}
 
--- how many of the choices are tried at rank i: all where a sequence may start, those without one, or only the empty one
+-- how many of the choices are tried at a rank: all where a sequence may start, those without one where the rank may be held, else the empty one
+abbrev pub triedWhere : Bool → Bool → ℕ
+triedWhere starts held = cond starts 8 (cond held 3 1)
+
 abbrev pub choicesAt : Board → ℕ → ℕ
-choicesAt b i = cond (b .starts i) 8 (cond (b .held i) 3 1)
+choicesAt b i = triedWhere (b .starts i) (b .held i)
 
 -- choice c goes into p pairs and m melds that are still to be laid, and into four tiles of rank i
 abbrev pub fits : ℕ → ℕ → List ℕ → ℕ → ℕ → Bool

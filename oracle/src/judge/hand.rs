@@ -12,9 +12,5 @@ pub fn answer(hand: &Hand) -> Answer {
         other => unreachable!("game {other} is refused"),
     };
     let verdict = Judge::new(board).verdict(&hand.counts, 1, hand.k.into());
-    Answer {
-        number: verdict.number as u8,
-        necessary: verdict.necessary,
-        unnecessary: verdict.unnecessary,
-    }
+    verdict.answer()
 }

@@ -42,11 +42,11 @@ fn board(game: u8) -> &'static Board {
     if game == 3 { &WHOLE_THREE } else { &WHOLE_FOUR }
 }
 
-fn kinds(board: &Board) -> Vec<usize> {
+pub(super) fn kinds(board: &Board) -> Vec<usize> {
     board.pairs().iter().map(|pair| pair[0]).collect()
 }
 
-fn of(random: &mut Random, kinds: &[usize], tiles: usize) -> [u8; 34] {
+pub(super) fn of(random: &mut Random, kinds: &[usize], tiles: usize) -> [u8; 34] {
     let mut counts = [0; 34];
     deal(random, kinds, tiles, &mut counts);
     counts
@@ -65,7 +65,7 @@ fn loose(random: &mut Random, board: &Board) -> [u8; 34] {
 }
 
 /// A complete hand with a few tiles changed, and half of the time one tile short.
-fn drifting(random: &mut Random, board: &Board, k: usize) -> [u8; 34] {
+pub(super) fn drifting(random: &mut Random, board: &Board, k: usize) -> [u8; 34] {
     let mut counts = complete(random, board, k);
     let changed = random.below(6).min(3 * k + 2);
     let short = random.below(2);
@@ -103,7 +103,7 @@ fn from_one_suit(random: &mut Random, board: &Board) -> [u8; 34] {
 }
 
 /// Tiles of a few kinds only, so that many are held three or four times.
-fn of_few_kinds(random: &mut Random, board: &Board, least: usize) -> [u8; 34] {
+pub(super) fn of_few_kinds(random: &mut Random, board: &Board, least: usize) -> [u8; 34] {
     let kinds = kinds(board);
     let mut few: Vec<usize> = (0..least + random.below(5))
         .map(|_| *random.pick(&kinds))

@@ -1,0 +1,75 @@
+-- The search from its start: with nothing laid it is ready for the first rank, and what it finds from there is right.
+-- Assumes nothing.
+use mathlib.Core.Path.{_≡_, refl, sym, ap, ap₂, subst, _∙_}
+use mathlib.Core.List.{List}
+use Prim.Native.Nat.{ℕ, _+_, _-_, _*_, _≤_}
+use native.Mathlib.Nat.{sub-zero}
+use native.Mathlib.Omega.{arith}
+use lib.ListN.{length, replicate}
+use lib.Dec.{T}
+use Rattle.tile.specs.Count.{Few, sumTo, lackTo}
+use Rattle.tile.specs.Board.{mayHold}
+use Rattle.tile.specs.Suit.{unfound, boardOf, Right}
+use Rattle.tile.specs.declared.found.Found.{Found}
+use Rattle.tile.specs.declared.one_suit.Suit.{Suit}
+use Rattle.tile.specs.declared.one_suit.Suit.the-variants.{Ranks, Honours, Ends}
+use Rattle.tile.proofs.Counts.{zeros-at}
+use Rattle.walk.specs.Walk.{walk, searched}
+use Rattle.walk.proofs.Longer.{searched-longer}
+use Rattle.walk.proofs.Right.{ranks-right, honours-right, ends-right}
+use Rattle.suit.specs.Task.{taskOf}
+use Rattle.suit.specs.Ready.{Ready}
+use Rattle.suit.specs.declared.task.Task.{Task}
+use Rattle.suit.specs.declared.aim.Aim.{Aim}
+use Rattle.suit.proofs.Faults.{kinds-most}
+
+-- nothing laid, p pairs and m melds to lay
+abbrev pub nothingLaid : ℕ → ℕ → Aim
+nothingLaid p m = record { counts = replicate 9 0; here = 0; next = 0; pairs = p; melds = m; lack = 0; span = 3 * m + 2 * p }
+
+suit-of : (s : Suit) (held : ℕ) → taskOf s held .suit ≡ s
+suit-of Ranks held = refl
+suit-of Honours held = refl
+suit-of Ends held = refl
+
+kinds-of : (s : Suit) (held : ℕ) → taskOf s held .kinds ≡ boardOf s .kinds
+kinds-of Ranks held = refl
+kinds-of Honours held = refl
+kinds-of Ends held = refl
+
+-- the first rank of each suit may be held
+first-held : (s : Suit) → T (mayHold (boardOf s) 0)
+first-held Ranks = tt
+first-held Honours = tt
+first-held Ends = tt
+
+module _ (s : Suit) (h : List ℕ) (p m : ℕ) (k : Task) (task : k ≡ taskOf s (sumTo (length h) h)) where
+  same-suit : k .suit ≡ s
+  same-suit = ap (λ (z : Task). z .suit) task ∙ suit-of s (sumTo (length h) h)
+
+  pub begin-ready : length h ≡ boardOf s .kinds → Few h → p ≤ 1 → m ≤ 5 → Ready h k 0 (nothingLaid p m)
+  unfolding lackTo
+  begin-ready long few one five =
+      record {
+        task = task ∙ ap (λ (z : Suit). taskOf z (sumTo (length h) h)) (sym same-suit);
+        long = rw same-suit long;
+        few = few;
+        held = first-held (k .suit);
+        begun = record { few = λ j. omega (arith, zeros-at 9 j); only = λ j barred. zeros-at 9 j; long = kinds-most (k .suit) };
+        here = refl;
+        next = refl;
+        lack = refl;
+        span = omega arith;
+        small = omega arith;
+      }
+
+  right-of : (bound : ℕ) → p ≤ 1 → m ≤ 5 → 3 * m + 2 * p ≤ bound → (s : Suit) → Right (boardOf s) bound p m h (searched (boardOf s) h bound p m)
+  right-of bound one five fits Ranks = ranks-right p m h bound one five fits
+  right-of bound one five fits Honours = honours-right p m h bound one five fits
+  right-of bound one five fits Ends = ends-right p m h bound one five fits
+
+  pub begin-right : (bound : ℕ) → p ≤ 1 → m ≤ 5 → 3 * m + 2 * p ≤ bound
+      → Right (boardOf s) bound p m h (walk (boardOf (k .suit)) h (k .kinds - 0) 0 p m (replicate 9 0) (unfound bound))
+  begin-right bound one five fits =
+      let kinds : k .kinds - 0 ≡ boardOf s .kinds = rw sub-zero (ap (λ (z : Task). z .kinds) task ∙ kinds-of s (sumTo (length h) h)) in
+      rw (same-suit, kinds, searched-longer (boardOf s) h 9 bound p m (kinds-most s)) (right-of bound one five fits s)
