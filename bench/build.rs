@@ -1,11 +1,11 @@
-//! Links the proved library, from where `rt staticlib` writes it.
+//! Links the proved library, from where `bench/library` writes it.
 
 use std::env;
 use std::path::Path;
 
 fn main() {
     let here = env::var("CARGO_MANIFEST_DIR").expect("set by cargo");
-    let folder = Path::new(&here).join("../target/staticlib");
+    let folder = Path::new(&here).join("target/library");
     println!("cargo:rustc-link-search=native={}", folder.display());
     println!("cargo:rustc-link-lib=static=suit_c");
     let library = folder.join("libsuit_c.a");

@@ -1,6 +1,6 @@
 -- The search from its start: with nothing laid it is ready for the first rank, and what it finds from there is right.
 -- Assumes nothing.
-use mathlib.Core.Path.{_≡_, refl, sym, ap, ap₂, subst, _∙_}
+use mathlib.Core.Path.{_≡_, refl, sym, ap, _∙_}
 use mathlib.Core.List.{List}
 use Prim.Native.Nat.{ℕ, _+_, _-_, _*_, _≤_}
 use native.Mathlib.Nat.{sub-zero}
@@ -10,7 +10,6 @@ use lib.Dec.{T}
 use Rattle.tile.specs.Count.{Few, sumTo, lackTo}
 use Rattle.tile.specs.Board.{mayHold}
 use Rattle.tile.specs.Suit.{unfound, boardOf, Right}
-use Rattle.tile.specs.declared.found.Found.{Found}
 use Rattle.tile.specs.declared.one_suit.Suit.{Suit}
 use Rattle.tile.specs.declared.one_suit.Suit.the-variants.{Ranks, Honours, Ends}
 use Rattle.tile.proofs.Counts.{zeros-at}

@@ -3,21 +3,20 @@
 use mathlib.Core.Path.{_≡_, refl, sym, ap, subst, _∙_}
 use mathlib.Core.Logic.{_⊎_, inl, inr, ⊎-elim}
 use mathlib.Core.Bool.{true, _||_}
-use Prim.Native.Nat.{ℕ, zero, suc, _+_, _-_, _≤_, _<_}
+use Prim.Native.Nat.{ℕ, _+_, _-_, _≤_, _<_}
 use native.Mathlib.Decide.{ℕ-discrete}
 use native.Mathlib.Omega.{arith}
-use lib.Dec.{T, ltb, ltb→lt, lt→ltb, eqb, eqb→eq}
+use lib.Dec.{T, ltb, ltb→lt, lt→ltb, eqb}
 use borrow.Author.Tests.{lt-ltb, le-ltb, ne-eqb}
 use Rattle.tile.specs.Count.{bit}
-use Rattle.tile.specs.Board.{Board, mayHold, ranks, honours, ends}
+use Rattle.tile.specs.Board.{mayHold, ranks, honours, ends}
 use Rattle.tile.specs.Suit.{boardOf}
 use Rattle.tile.specs.declared.one_suit.Suit.{Suit}
 use Rattle.tile.specs.declared.one_suit.Suit.the-variants.{Ranks, Honours, Ends}
-use Rattle.tile.proofs.Tests.{and-first, and-second, and-both, at-most-or-over}
+use Rattle.tile.proofs.Tests.{and-second, and-both, at-most-or-over}
 use Rattle.walk.specs.Walk.{choicesAt}
 use Rattle.walk.proofs.Sane.{Sane}
 use Rattle.walk.proofs.Room.{heldIn, held-most}
-use Rattle.walk.proofs.Begun.{may-inside}
 use Rattle.walk.proofs.Right.{sane-ranks, sane-honours, sane-ends}
 use Rattle.suit.specs.Task.{taskOf, choicesFor}
 use Rattle.suit.specs.declared.task.Task.{Task}

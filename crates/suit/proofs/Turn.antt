@@ -1,28 +1,27 @@
 -- One turn of the search's loop: what the code makes of a choice is what the walk makes of it.
 -- Assumes nothing.
-use mathlib.Core.Path.{_≡_, refl, sym, ap, ap₂, subst, _∙_}
+use mathlib.Core.Path.{_≡_, sym, ap, subst, _∙_}
 use mathlib.Core.Logic.{_⊎_, inl, inr, ⊎-elim}
 use mathlib.Core.Bool.{Bool, true, false, true≢false}
 use mathlib.Core.List.{List}
 use Prim.Native.Nat.{ℕ, _+_, _-_, _*_, _≤_, _<_}
 use native.Mathlib.Omega.{arith}
 use lib.ListN.{length, getD, set}
-use lib.Dec.{T}
 use borrow.Author.Tests.{le-ltb, lt-ltb, le-leb, lt-leb}
-use Rattle.tile.specs.Count.{copies, Few, more, sumTo, lackTo}
-use Rattle.tile.specs.Board.{Board, mayHold}
+use Rattle.tile.specs.Count.{copies, more, sumTo, lackTo}
+use Rattle.tile.specs.Board.{Board}
 use Rattle.tile.specs.Suit.{boardOf}
 use Rattle.tile.specs.declared.found.Found.{Found}
 use Rattle.tile.proofs.Tests.{at-most-or-over}
 use Rattle.tile.proofs.Counts.{lack-few, lack-further, lack-end, more-off}
-use Rattle.walk.specs.Choice.{sequencesOf, tripletsOf, pairsOf, meldsOf, tilesOf}
+use Rattle.walk.specs.Choice.{sequencesOf, pairsOf, meldsOf, tilesOf}
 use Rattle.walk.specs.Walk.{choicesAt, laid, join, tried, walk}
 use Rattle.walk.proofs.Choice.{choice-small}
 use Rattle.walk.proofs.Leaf.{Fits}
 use Rattle.walk.proofs.Sane.{Lays, may-lay}
 use Rattle.walk.proofs.Begun.{Begun, begun-few, begun-later, may-inside, laid-next, laid-third, laid-begun, laid-sum, lack-passed, lack-whole, beyond-passed}
 use Rattle.walk.proofs.Bounds.{leaf-lack}
-use Rattle.walk.proofs.Room.{heldIn, leaf-room}
+use Rattle.walk.proofs.Room.{leaf-room}
 use Rattle.walk.proofs.Steps.{over-melds, over-pairs, over-tiles, cut, entered}
 use Rattle.walk.proofs.Skips.{walk-skip, walk-past, walk-done}
 use Rattle.suit.specs.Choice.{choiceOf}
@@ -111,11 +110,10 @@ module _ (h : List ℕ) (k : Task) (i : ℕ) (a : Aim) (ready : Ready h k i a) w
         (on-account (a .span) _ _ (a .melds) (meldsOf c) (a .pairs) (pairsOf c) _ _ (ready .span) (laid-sum (ready .begun) c lays (fit .tiles)) (fit .melds) (fit .pairs))
 
     module _ (r : Found) where
-      -- the choice fits, what it lacks is no more than was found, and nor is what it must lack
+      -- the choice fits, and what it lacks is no more than was found
       pub record Worth : Type 0 where
         pub fit : Fits (a .pairs) (a .melds) t i c
         pub near : lackTo (b .kinds) u h ≤ r .number
-        pub useful : a .span + (v .first - (a .here + tilesOf c)) ≤ k .held + r .number
 
       abbrev worth : Bool
       worth = worthy a (choiceOf c) v (k .held) (r .number)
@@ -147,7 +145,7 @@ module _ (h : List ℕ) (k : Task) (i : ℕ) (a : Aim) (ready : Ready h k i a) w
               by-use =
                   ⊎-elim
                   (λ (useful : a .span + (v .first - (a .here + tilesOf c)) ≤ k .held + r .number).
-                  inr (simp le-leb, record { fit = fits-there; near = near-there; useful = useful }))
+                  inr (simp le-leb, record { fit = fits-there; near = near-there }))
                   (λ (over : k .held + r .number < a .span + (v .first - (a .here + tilesOf c))). inl (simp (le-leb, lt-leb), useless over))
                   (at-most-or-over (a .span + (v .first - (a .here + tilesOf c))) (k .held + r .number))
 
@@ -189,7 +187,7 @@ module _ (h : List ℕ) (k : Task) (i : ℕ) (a : Aim) (ready : Ready h k i a) w
       -- ---- gone into
 
       module _ (worth : Worth) where
-        pub goes : turn c r ≡ deeper (a .pairs - pairsOf c) (a .melds - meldsOf c) u r
+        goes : turn c r ≡ deeper (a .pairs - pairsOf c) (a .melds - meldsOf c) u r
         goes = let fit = worth .fit in entered (b .kinds) h deeper i (a .pairs) (a .melds) t c r (fit .melds) (fit .pairs) (fit .tiles) (worth .near)
 
         -- with nothing left the target is whole

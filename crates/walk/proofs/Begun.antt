@@ -1,7 +1,7 @@
 -- A target on its way: what can be laid when the walk comes to a rank, how much of it is lacked, and how many tiles it has.
 -- No count passes four, though only the rank that is filled is tested: a rank gets at most two tiles from each of the two ranks before it.
 -- Assumes nothing.
-use mathlib.Core.Path.{_≡_, refl, sym, ap, _∙_}
+use mathlib.Core.Path.{_≡_, refl, ap, _∙_}
 use mathlib.Core.Logic.{⊎-elim}
 use mathlib.Core.List.{List}
 use Prim.Native.Nat.{ℕ, zero, suc, _+_, _-_, _*_, _≤_, _<_}

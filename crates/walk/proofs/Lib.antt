@@ -16,3 +16,4 @@ pub mod Skips
 pub mod Begun
 pub mod Bounds
 pub mod Longer
+mod Example

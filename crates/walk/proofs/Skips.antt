@@ -1,23 +1,23 @@
 -- What code may pass over: branches whose targets all lack more than was found, ranks at which nothing may be laid, and all ranks once nothing is left to lay.
 -- Assumes nothing.
 use mathlib.Core.Path.{_≡_, refl, sym, ap, _∙_}
-use mathlib.Core.Bool.{Bool, true, false, _&&_, cond}
+use mathlib.Core.Bool.{Bool, true, false, _&&_}
 use mathlib.Core.Logic.{⊎-elim}
 use mathlib.Core.List.{List}
 use Prim.Native.Nat.{ℕ, zero, suc, _+_, _-_, _≤_, _<_}
 use native.Mathlib.Nat.{zero-add, add-zero, sub-zero}
 use native.Mathlib.Omega.{arith}
 use lib.ListN.{getD}
-use lib.Dec.{T, leb, le→leb, nleb→lt, eqb·suc-zero, T-not}
+use lib.Dec.{leb, eqb·suc-zero}
 use Rattle.tile.specs.Count.{copies, Few, lackTo}
 use Rattle.tile.specs.Board.{Board}
 use Rattle.tile.specs.declared.found.Found.{Found}
-use Rattle.tile.proofs.Tests.{at-most-or-over, by-test, and-first, allTo, all-to}
+use Rattle.tile.proofs.Tests.{at-most-or-over, by-test, and-first}
 use Rattle.tile.proofs.Counts.{lack-within}
-use Rattle.walk.specs.Choice.{pairsOf, meldsOf}
+use Rattle.walk.specs.Choice.{meldsOf}
 use Rattle.walk.specs.Walk.{triedWhere, choicesAt, fits, laid, upTo, join, tried, walk}
 use Rattle.walk.proofs.Spread.{spread, spread-none}
-use Rattle.walk.proofs.Leaf.{Leaf, leaf-grows, of-fits, to-fits}
+use Rattle.walk.proofs.Leaf.{Leaf, leaf-grows}
 use Rattle.walk.proofs.Choice.{choice-lays}
 use Rattle.walk.proofs.Steps.{join-more, over-melds, over-pairs, cut, entered}
 
@@ -72,7 +72,7 @@ module _ (b : Board) (h : List ℕ) where
         let same : laid t i 0 ≡ t = spread-none t i in
         let lack = ap (λ (u : List ℕ). lackTo (b .kinds) u h) same in
         ⊎-elim
-        (λ near. entered (b .kinds) h deeper i p m t 0 r (omega arith) (omega arith) (omega arith) (omega arith) ∙ rw (sub-zero, sub-zero, same))
+        (λ near. entered (b .kinds) h deeper i p m t 0 r (omega arith) (omega arith) (omega arith) (omega arith) ∙ rw (sub-zero p, sub-zero m, same))
         (λ far. cut (b .kinds) h deeper i p m t 0 r (omega arith) (omega arith) (omega arith) (omega arith)
         ∙ sym (walk-skip l (i + 1) p m t r (λ u k. omega (arith, lack-within (b .kinds) t u h (leaf-grows b l (i + 1) p m t u k)))))
         (at-most-or-over (lackTo (b .kinds) t h) (r .number))

@@ -5,10 +5,9 @@ use mathlib.Core.Path.{_≡_, refl, sym, ap, ap₂, _∙_}
 use mathlib.Core.Logic.{⊎-elim}
 use Prim.Native.Nat.{ℕ, _+_, _-_, _≤_, _<_}
 use native.Mathlib.Omega.{arith}
-use borrow.Author.Needs.{needs}
 use Rattle.tile.specs.Suit.{boardOf}
 use Rattle.walk.specs.Choice.{pairsOf, meldsOf}
-use Rattle.walk.specs.Walk.{choicesAt, upTo, walk}
+use Rattle.walk.specs.Walk.{choicesAt, upTo}
 use Rattle.walk.proofs.Choice.{choice-small}
 use Rattle.walk.proofs.Steps.{upTo-suc, rank-left}
 use Rattle.suit.specs.Choice.{choiceOf}

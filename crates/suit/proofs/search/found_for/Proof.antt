@@ -1,7 +1,6 @@
 -- `suit::search::found_for` meets its contract: the walk from its start is right.
 -- Assumes nothing.
 use mathlib.Core.Path.{ap, _∙_}
-use Prim.Native.Nat.{ℕ}
 use native.Mathlib.Omega.{arith}
 use borrow.Author.Needs.{needs}
 use Rattle.suit.specs.Task.{taskOf}
