@@ -1,8 +1,10 @@
 -- `suit::aim::is_worth` meets its contract: five tests, one after the other.
 -- Assumes nothing.
+use Prim.Native.Nat.{_+_}
 use native.Mathlib.Omega.{arith}
 use borrow.Author.Needs.{needs}
 use borrow.Author.Tests.{le-leb, lt-leb}
+use Rattle.tile.specs.Count.{copies}
 use Rattle.suit.specs.Aim.{worthy}
 use Rattle.suit.proofs.aim.is_worth.Statement.{statement}
 use Rattle.suit.proofs.aim.is_worth.Tie as tie
@@ -19,14 +21,16 @@ returns-3 : tie.Need-returns-3
 unfolding worthy
 returns-3 c =
     let s = c .before .before .before in
-    rw (le-leb _ _ (s .before .before .before .if1 .left), le-leb _ _ (s .if2 .left), lt-leb _ _ (c .if3 .taken))
+    let a = s .before .before .before .before .before .before .args in
+    rw (le-leb _ _ (s .before .before .before .if1 .left), le-leb _ _ (s .if2 .left), lt-leb (a .aim .here + a .choice .tiles) copies (omega (arith, c .if3 .taken)))
 
 returns-4 : tie.Need-returns-4
 unfolding worthy
 returns-4 c =
     let s = c .before .before in
     let t = s .before .before .before in
-    rw (le-leb _ _ (t .before .before .before .if1 .left), le-leb _ _ (t .if2 .left), le-leb _ _ (s .if3 .left), ← c .before .whole-lack .ensures, lt-leb _ _ (c .if4 .taken))
+    let a = t .before .before .before .before .before .before .args in
+    rw (le-leb _ _ (t .before .before .before .if1 .left), le-leb _ _ (t .if2 .left), le-leb (a .aim .here + a .choice .tiles) copies (omega (arith, s .if3 .left)), ← c .before .whole-lack .ensures, lt-leb _ _ (c .if4 .taken))
 
 add-result : tie.Need-add-result
 add-result c = omega (arith, c .before .before .before .before .before .before .before .before .before .before .before .before .before .before .before .before .before .before .fits)
@@ -37,7 +41,8 @@ returns-5 c =
     let q = c .before .before .before .before .before .before .before in
     let s = q .before .before in
     let t = s .before .before .before in
-    rw (le-leb _ _ (t .before .before .before .if1 .left), le-leb _ _ (t .if2 .left), le-leb _ _ (s .if3 .left), ← q .before .whole-lack .ensures, le-leb _ _ (q .if4 .left)) (cc)
+    let a = t .before .before .before .before .before .before .args in
+    rw (le-leb _ _ (t .before .before .before .if1 .left), le-leb _ _ (t .if2 .left), le-leb (a .aim .here + a .choice .tiles) copies (omega (arith, s .if3 .left)), ← q .before .whole-lack .ensures, le-leb _ _ (q .if4 .left)) (cc)
 
 pub is-worth-spec : {M : Type 1} → statement M
 is-worth-spec =
