@@ -1,3 +1,4 @@
 pub mod Question
 pub mod Record
+pub mod Ten
 pub mod Reply

@@ -9,7 +9,8 @@ use Rattle.tile.specs.Goals.{GoalsPromised}
 use Rattle.tile.specs.declared.one_suit.SuitAnswer.{SuitAnswer}
 use Rattle.tile.specs.declared.one_suit.SuitGoals.{SuitGoals}
 use Rattle.suit_replay.specs.Question.{suitOf, countsOf}
-use Rattle.suit_replay.specs.Record.{recordOf, Ten}
+use Rattle.suit_replay.specs.Record.{recordOf}
+use Rattle.suit_replay.specs.Ten.{Ten}
 
 abbrev pub OneFor : List ℕ → List ℕ → Type 0
 OneFor q x = (a : SuitAnswer) × Promised (boardOf (suitOf (getD q 0 0))) (getD q 1 0) (getD q 2 0) (countsOf q) a × (x ≡ recordOf a)

@@ -1,7 +1,7 @@
-// The records of the ten goals, one after the other (01 "Packed words" has their order).
+// The records of the ten goals, one after the other.
 ghost use mathlib.Core.Path.{_≡_};
 ghost use Prim.Native.Nat.{_<_};
-ghost use Rattle.suit_replay.specs.Record.{goalRecord, Ten};
+ghost use Rattle.suit_replay.specs.Ten.{goalRecord, Ten};
 use crate::record::record_of;
 use tile::one_suit::Checked;
 use tile::one_suit::SuitAnswer;

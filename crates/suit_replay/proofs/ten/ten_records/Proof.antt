@@ -7,7 +7,7 @@ use native.Mathlib.Omega.{arith}
 use lib.ListN.{length, getD, length-set}
 use lib.Seq.{getD-set-same, getD-set-other}
 use borrow.Author.Count.{below-none, below-more}
-use Rattle.suit_replay.specs.Record.{goalRecord}
+use Rattle.suit_replay.specs.Ten.{goalRecord}
 use Rattle.suit_replay.proofs.ten.ten_records.Statement.{statement}
 use Rattle.suit_replay.proofs.ten.ten_records.Tie as tie
 
