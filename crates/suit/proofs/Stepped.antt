@@ -111,8 +111,8 @@ held-of Honours held = refl
 held-of Ends held = refl
 
 -- and k says how many tiles the hand holds
-pub all-held : (k : Task) (held : ℕ) → k ≡ taskOf (k .suit) held → k .held ≡ held
-all-held k held e = ap (λ (z : Task). z .held) e ∙ held-of (k .suit) held
+pub tiles-held : (k : Task) (held : ℕ) → k ≡ taskOf (k .suit) held → k .held ≡ held
+tiles-held k held e = ap (λ (z : Task). z .held) e ∙ held-of (k .suit) held
 
 -- what is tried at a rank
 pub tried-most : (k : Task) (i : ℕ) → choicesFor k i ≤ 8

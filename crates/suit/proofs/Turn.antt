@@ -19,7 +19,8 @@ use Rattle.walk.specs.Walk.{choicesAt, laid, join, tried, walk}
 use Rattle.walk.proofs.Choice.{choice-small}
 use Rattle.walk.proofs.Leaf.{Fits}
 use Rattle.walk.proofs.Sane.{Lays, may-lay}
-use Rattle.walk.proofs.Begun.{Begun, begun-few, begun-later, may-inside, laid-next, laid-third, laid-begun, laid-sum, lack-passed, lack-whole, beyond-passed}
+use Rattle.walk.specs.Begun.{Begun}
+use Rattle.walk.proofs.Begun.{begun-few, begun-later, may-inside, laid-next, laid-third, laid-begun, laid-sum, lack-passed, lack-whole, beyond-passed}
 use Rattle.walk.proofs.Bounds.{leaf-lack}
 use Rattle.walk.proofs.Room.{leaf-room}
 use Rattle.walk.proofs.Steps.{over-melds, over-pairs, over-tiles, cut, entered}
@@ -31,7 +32,7 @@ use Rattle.suit.specs.Ready.{Ready}
 use Rattle.suit.specs.declared.task.Task.{Task}
 use Rattle.suit.specs.declared.aim.Aim.{Aim}
 use Rattle.suit.specs.declared.aim.View.{View}
-use Rattle.suit.proofs.Stepped.{Stepped, stepped, all-held}
+use Rattle.suit.proofs.Stepped.{Stepped, stepped, tiles-held}
 
 -- what is laid is taken from what is to be laid
 on-account : (span sum sum′ m m′ p p′ l x : ℕ) → span ≤ sum + (3 * m + 2 * p) + l → sum′ ≡ sum + (3 * m′ + 2 * p′) → m′ ≤ m → p′ ≤ p
@@ -65,7 +66,7 @@ module _ (h : List ℕ) (k : Task) (i : ℕ) (a : Aim) (ready : Ready h k i a) w
   steps = stepped k (sumTo (length h) h) i (ready .task) (ready .held)
 
   hand-sum : k .held ≡ sumTo (b .kinds) h
-  hand-sum = all-held k (sumTo (length h) h) (ready .task) ∙ ap (λ (n : ℕ). sumTo n h) (ready .long)
+  hand-sum = tiles-held k (sumTo (length h) h) (ready .task) ∙ ap (λ (n : ℕ). sumTo n h) (ready .long)
 
   pub inside : i < b .kinds
   inside = may-inside b i (ready .held)

@@ -14,7 +14,7 @@ use Rattle.suit.specs.declared.aim.View.{View}
 abbrev pub viewOf : List ℕ → ℕ → View
 viewOf h i = record { first = getD h i 0; second = getD h (i + 1) 0; third = getD h (i + 2) 0 }
 
--- so small that no sum passes a byte
+-- so small that no sum passes a byte: ranks hold at most four tiles, a choice adds at most seven to one, and lack and span stay far below 100
 abbrev pub Small : Aim → Choice → View → Type 0
 Small a c v = (a .here ≤ 4) × (a .next ≤ 4) × (a .lack ≤ 100) × (a .span ≤ 100) × (c .tiles ≤ 7) × (c .sequences ≤ 2) × (v .first ≤ 4)
 

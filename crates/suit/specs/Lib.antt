@@ -1,5 +1,5 @@
 pub mod Choice
-pub mod Distance
+pub mod Sets
 pub mod Task
 pub mod Aim
 pub mod Ready

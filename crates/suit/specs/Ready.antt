@@ -8,7 +8,7 @@ use lib.Dec.{T}
 use Rattle.tile.specs.Count.{Few, sumTo, lackTo}
 use Rattle.tile.specs.Board.{mayHold}
 use Rattle.tile.specs.Suit.{boardOf}
-use Rattle.walk.proofs.Begun.{Begun}
+use Rattle.walk.specs.Begun.{Begun}
 use Rattle.suit.specs.Task.{taskOf}
 use Rattle.suit.specs.declared.task.Task.{Task}
 use Rattle.suit.specs.declared.aim.Aim.{Aim}

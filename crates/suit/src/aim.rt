@@ -1,13 +1,13 @@
 // A target on its way: what is laid when the search comes to a rank, and what one choice more makes of it.
 ghost use mathlib.Core.Path.{_≡_};
-ghost use Prim.Native.Nat.{_≤_, _<_};
+ghost use Prim.Native.Nat.{_-_, _≤_, _<_};
 ghost use lib.ListN.{length, getD, set};
 ghost use Rattle.suit.specs.Aim.{viewOf, Small, wholeLack, worthy, countsBy, advancedBy};
 use crate::choice::Choice;
-use crate::distance::minus;
 
-// The tiles laid; of them those at the rank and at the next; the pairs and melds still to be laid; what is lacked at the ranks passed;
-// and the tiles that the target will have, together with those that the hand has beyond it at the ranks passed.
+// The tiles laid; of them those at the rank and at the next, beside the array, because to read them back from it would wait for its writing;
+// the pairs and melds still to be laid; what is lacked at the ranks passed; and the span: the tiles that the target will have, together
+// with those that the hand has beyond it at the ranks passed.
 pub(crate) struct Aim {
     pub(crate) counts: [u8; 9],
     pub(crate) here: u8,
@@ -25,6 +25,17 @@ pub(crate) struct View {
     pub(crate) third: u8,
 }
 
+// `a` less `b`, and 0 where that would be negative.
+fn minus(a: u8, b: u8) -> u8
+    ensures { λ r. ⌜ r ≡ a - b ⌝ }
+{
+    if a < b {
+        return 0;
+    }
+    a - b
+}
+
+// A rank past the last is held 0 times, so that the two ranks after any rank can be asked for.
 fn count_at(counts: &[u8], i: usize) -> u8
     ensures { λ r. ⌜ r ≡ getD (now (counts .entry)) i 0 ⌝ }
 {
@@ -56,6 +67,7 @@ pub(crate) fn whole_lack(aim: Aim, choice: Choice, view: View) -> u8
     aim.lack + first + second + third
 }
 
+// Sums of bytes that may pass a byte are made in a wider type.
 pub(crate) fn wide(x: u8) -> usize
     ensures { λ r. ⌜ r ≡ x ⌝ }
 {
@@ -84,6 +96,7 @@ pub(crate) fn is_worth(aim: Aim, choice: Choice, view: View, held: u8, number: u
     wide(span) <= wide(held) + wide(number)
 }
 
+// Past the last rank nothing is written: there a choice has no tiles.
 fn put(counts: &mut [u8; 9], i: usize, count: u8)
     requires { ⌜ length (now counts) ≡ 9 ⌝ }
     ensures { λ _. ⌜ now (counts .exit) ≡ set (now (counts .entry)) i count ⌝ }

@@ -8,14 +8,16 @@ ghost use Rattle.suit.specs.Check.{FirstOver, FirstBarred, CheckedFor};
 use tile::one_suit::Checked;
 use tile::one_suit::Suit;
 use tile::refusal::Reason;
+use tile::suits::SuitM;
+use tile::suits::SuitZ;
 
 fn kinds_of(suit: Suit) -> usize
     ensures { λ r. ⌜ r ≡ boardOf suit .kinds ⌝ }
 {
     match suit {
-        Suit::Ranks => 9,
-        Suit::Honours => 7,
-        Suit::Ends => 9,
+        Suit::Ranks => SuitM::LENGTH,
+        Suit::Honours => SuitZ::LENGTH,
+        Suit::Ends => SuitM::LENGTH,
     }
 }
 
@@ -76,6 +78,7 @@ pub(crate) fn check(suit: Suit, counts: &[u8], pairs: u8, melds: u8) -> Checked
     if over < n {
         return Checked::Faulty(Reason::Over(over));
     }
+    // both are looked up first, so that the tests stand side by side in 01's order
     let sum = total(counts);
     let barred = first_barred(suit, counts);
     if 14 < sum {

@@ -4,7 +4,7 @@ ghost use Prim.Native.Nat.{_≤_};
 ghost use lib.ListN.{length};
 ghost use Rattle.tile.specs.Count.{lackTo};
 ghost use Rattle.walk.specs.Walk.{join};
-use crate::distance;
+use crate::sets;
 use tile::found::Found;
 
 // A target whose lack is `number` joins what was found: a smaller lack replaces it, an equal one adds its sets, a greater one leaves it.
@@ -15,8 +15,8 @@ pub(crate) fn joined(found: Found, n: usize, number: u8, counts: [u8; 9], hand: 
     if found.number < number {
         return found;
     }
-    let necessary = distance::necessary(n, &counts, hand);
-    let unnecessary = distance::unnecessary(n, &counts, hand);
+    let necessary = sets::necessary(n, &counts, hand);
+    let unnecessary = sets::unnecessary(n, &counts, hand);
     if number < found.number {
         return Found {
             number: number,

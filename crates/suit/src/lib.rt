@@ -2,8 +2,8 @@
 mod aim;
 mod check;
 mod choice;
-mod distance;
 pub mod entry;
 mod join;
 mod search;
+mod sets;
 mod task;

@@ -1,5 +1,7 @@
 // The search of one suit (01 "One suit"): rank by rank, each rank calling for the next, with the target so far by value.
-// No target is lost though no choice has three sequences: three equal sequences are the tiles of three triplets.
+// No target is lost. The eight choices are all ways to use at most four tiles of a rank with at most two sequences and one pair; and three
+// or four sequences from one rank are not needed, because three equal sequences are the same tiles as three triplets, one of each of their
+// kinds: one is laid here, the other two at the next two ranks. What is passed over leads only to targets that lack more than was found.
 ghost use mathlib.Core.Path.{_≡_};
 ghost use Prim.Native.Nat.{_+_, _-_, _*_, _≤_};
 ghost use lib.ListN.{length};

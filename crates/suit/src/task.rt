@@ -5,6 +5,7 @@ ghost use Rattle.suit.specs.Task.{taskOf, choicesFor, roomFor};
 use tile::one_suit::Suit;
 
 // The suit by numbers: how many kinds it has, below which rank a sequence may start, and how far it is from one rank that may be held to the next.
+// The search reads the numbers; `suit` is there for what it promises.
 pub(crate) struct Task {
     pub(crate) suit: Suit,
     pub(crate) kinds: usize,
@@ -52,6 +53,7 @@ pub(crate) fn choices_at(task: Task, rank: usize) -> usize
 }
 
 // Whether `left` pairs and melds find room from a rank on: each has a rank of its own, or a sequence may still start.
+// (All numbers here are small; 1000 is far above them.)
 pub(crate) fn has_room(task: Task, rank: usize, left: usize) -> bool
     requires { ⌜ rank + left < 1000 ⌝ }
     ensures { λ r. ⌜ r ≡ roomFor task rank left ⌝ }

@@ -22,5 +22,6 @@ pub answered-parts : (r : Found) → r .number < 2 ^ 8 → r .necessary < 2 ^ 16
     → Parts (wordOf (Answered r)) (r .number) (r .necessary) (r .unnecessary) 0 0
 answered-parts r a b c = record { number = omega arith; necessary = omega arith; unnecessary = omega arith; index = omega arith; code = omega arith }
 
-pub refused-parts : (q : Reason) → Parts (wordOf (Refused q)) 0 0 0 (indexOf q % 2 ^ 8) (codeOf q)
-refused-parts q = record { number = omega arith; necessary = omega arith; unnecessary = omega arith; index = omega arith; code = omega arith }
+-- the index of a refusal is below nine (`index-inside`), so that its byte holds it
+pub refused-parts : (q : Reason) → indexOf q < 2 ^ 8 → Parts (wordOf (Refused q)) 0 0 0 (indexOf q) (codeOf q)
+refused-parts q l = record { number = omega arith; necessary = omega arith; unnecessary = omega arith; index = omega arith; code = omega arith }

@@ -5,14 +5,14 @@ use mathlib.Core.Path.{_≡_}
 use mathlib.Core.List.{List}
 use Prim.Native.Nat.{ℕ, _+_, _*_, _%_, _^_}
 use Rattle.tile.specs.Board.{Board}
-use Rattle.tile.specs.Refusal.{codeOf, indexOf}
-use Rattle.tile.specs.Suit.{Promised}
+use Rattle.tile.specs.Suit.{valuesOf, Promised}
 use Rattle.tile.specs.declared.one_suit.SuitAnswer.{SuitAnswer}
-use Rattle.tile.specs.declared.one_suit.SuitAnswer.the-variants.{Answered, Refused}
 
 abbrev pub wordOf : SuitAnswer → ℕ
-wordOf (Answered r) = r .number + r .necessary * 2 ^ 8 + r .unnecessary * 2 ^ 24
-wordOf (Refused q) = indexOf q % 256 * 2 ^ 40 + codeOf q * 2 ^ 48
+wordOf a =
+    let v = valuesOf a in
+    let r = v .found in
+    r .number + r .necessary * 2 ^ 8 + r .unnecessary * 2 ^ 24 + v .index % 2 ^ 8 * 2 ^ 40 + v .code * 2 ^ 48
 
 -- w is the word of an answer that is promised for p pairs and m melds and the counts h
 abbrev pub WordFor : Board → ℕ → ℕ → List ℕ → ℕ → Type 0

@@ -3,10 +3,11 @@
 -- Assumes nothing.
 use mathlib.Core.List.{List, [], _∷_}
 use Prim.Native.Nat.{ℕ, _/_, _%_}
-use Rattle.tile.specs.Refusal.{codeOf, indexOf}
+use Rattle.tile.specs.Suit.{valuesOf}
 use Rattle.tile.specs.declared.one_suit.SuitAnswer.{SuitAnswer}
-use Rattle.tile.specs.declared.one_suit.SuitAnswer.the-variants.{Answered, Refused}
 
 abbrev pub recordOf : SuitAnswer → List ℕ
-recordOf (Answered r) = 0 ∷ 0 ∷ r .number ∷ 0 ∷ r .necessary % 256 ∷ r .necessary / 256 ∷ r .unnecessary % 256 ∷ r .unnecessary / 256 ∷ []
-recordOf (Refused q) = codeOf q ∷ indexOf q % 256 ∷ 0 ∷ 0 ∷ 0 ∷ 0 ∷ 0 ∷ 0 ∷ []
+recordOf a =
+    let v = valuesOf a in
+    let r = v .found in
+    v .code ∷ v .index % 256 ∷ r .number ∷ 0 ∷ r .necessary % 256 ∷ r .necessary / 256 ∷ r .unnecessary % 256 ∷ r .unnecessary / 256 ∷ []

@@ -4,7 +4,7 @@ use mathlib.Core.Path.{_≡_}
 use mathlib.Core.List.{List}
 use Prim.Native.Nat.{ℕ, _/_, _%_, _<_}
 use lib.ListN.{length, getD}
-use Rattle.tile.specs.Suit.{unfound}
+use Rattle.tile.specs.Suit.{blank}
 use Rattle.tile.specs.declared.found.Found.{Found}
 use Rattle.tile.specs.declared.one_suit.Checked.{Checked}
 use Rattle.tile.specs.declared.one_suit.Checked.the-variants.{Fine, Faulty}
@@ -19,7 +19,7 @@ goalOf Fine r = Answered r
 goalOf (Faulty q) r = Refused q
 
 abbrev pub goalRecord : SuitGoals → ℕ → List ℕ
-goalRecord s g = recordOf (goalOf (s .checked) (getD (s .goals) g (unfound 0)))
+goalRecord s g = recordOf (goalOf (s .checked) (getD (s .goals) g blank))
 
 -- x is the ten records, eight bytes each
 pub record Ten (s : SuitGoals) (x : List ℕ) : Type 0 where

@@ -3,14 +3,14 @@
 use mathlib.Core.Path.{_≡_, refl, sym, ap, ap₂, subst, _∙_}
 use mathlib.Core.Logic.{⊎-elim}
 use mathlib.Core.List.{List, [], _∷_}
-use Prim.Native.Nat.{ℕ, _-_}
+use Prim.Native.Nat.{ℕ, _-_, _<_}
 use native.Mathlib.Decide.{ℕ-discrete}
 use native.Mathlib.Omega.{arith}
-use lib.ListN.{getD}
+use lib.ListN.{length, getD, List·getD-eq-default}
 use lib.Seq.{ext-getD}
 use Rattle.tile.specs.Board.{Board}
 use Rattle.tile.specs.Refusal.{codeOf, indexOf, Lowest, First, SuitFault}
-use Rattle.tile.specs.Suit.{unfound, Promised}
+use Rattle.tile.specs.Suit.{blank, Promised}
 use Rattle.tile.specs.Goals.{GoalsPromised, AllRight}
 use Rattle.tile.specs.declared.found.Found.{Found}
 use Rattle.tile.specs.declared.refusal.Reason.{Reason}
@@ -89,10 +89,26 @@ module _ (b : Board) (p m : ℕ) (h : List ℕ) where
   promised-once (Answered r) (Refused q) (fine, x) y = absurd (fine q (y .holds))
   promised-once (Answered r) (Answered s) (f, x) (g, y) = ap (λ (z : Found). Answered z) (right-once x y)
 
+-- the index that comes back is one of the lent counts, of which there are as many as the board has kinds
+module _ (b : Board) (p m : ℕ) (h : List ℕ) (some : 0 < b .kinds) where
+  held-inside : (i : ℕ) → 0 < getD h i 0 → ((length h ≡ b .kinds → ⊥) → ⊥) → i < b .kinds
+  held-inside i l long =
+      let shorter : length h < b .kinds → ⊥ = λ x. long (λ e. omega arith) in
+      let longer : b .kinds < length h → ⊥ = λ x. long (λ e. omega arith) in
+      ⊎-elim (λ over. absurd (omega (arith, List·getD-eq-default h 0 over))) (λ under. omega arith) (at-most-or-over (length h) i)
+
+  pub index-inside : (q : Reason) → First (SuitFault b p m h) q → indexOf q < b .kinds
+  index-inside Game f = absurd (f .holds)
+  index-inside Goal f = some
+  index-inside Length f = some
+  index-inside (Over i) f = held-inside i (omega (arith, f .holds .holds)) (f .none-before Length (omega arith))
+  index-inside Sum f = some
+  index-inside (Barred i) f = held-inside i (f .holds .holds .1) (f .none-before Length (omega arith))
+
 -- for the ten goals
 module _ (b : Board) (h : List ℕ) where
   all-once : (r s : List Found) → AllRight b h r → AllRight b h s → r ≡ s
-  all-once r s x y = ext-getD (unfound 0) r s (x .ten ∙ sym (y .ten)) (λ g l. right-once (x .each g (omega (arith, x .ten))) (y .each g (omega (arith, x .ten))))
+  all-once r s x y = ext-getD blank r s (x .ten ∙ sym (y .ten)) (λ g l. right-once (x .each g (omega (arith, x .ten))) (y .each g (omega (arith, x .ten))))
 
   pub goals-once : (c d : Checked) (r s : List Found) → GoalsPromised b h c r → GoalsPromised b h d s → (c ≡ d) × (r ≡ s)
   goals-once (Faulty q) (Faulty t) r s (x, e) (y, f) = (ap (λ (z : Reason). Faulty z) (suit-first-once b 0 0 h q t x y), e ∙ sym f)

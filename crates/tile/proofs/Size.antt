@@ -19,11 +19,14 @@ use Rattle.tile.proofs.Built.{built-sum}
 pub target-size : {b : Board} {p m : ℕ} {t : List ℕ} → Target b p m t → sumTo (b .kinds) t ≡ 3 * m + 2 * p
 target-size tg = built-sum (tg .built)
 
--- the number is at most that
+-- it lacks at most that many, and so the number is at most that
+pub target-lack : {b : Board} {p m : ℕ} {t : List ℕ} (h : List ℕ) → Target b p m t → lackTo (b .kinds) t h ≤ 3 * m + 2 * p
+target-lack {b} {t = t} h tg = omega (arith, target-size tg, lack-sum (b .kinds) t h)
+
 pub number-at-most : {b : Board} {p m x : ℕ} {h : List ℕ} → Least (b .kinds) (Target b p m) h x → x ≤ 3 * m + 2 * p
-number-at-most {b} {h = h} least =
+number-at-most {h = h} least =
     let (t, tg, e) = least .some in
-    omega (arith, target-size tg, lack-sum (b .kinds) t h)
+    omega (arith, target-lack h tg)
 
 module _ {n : ℕ} {G : List ℕ → Type 0} {h : List ℕ} where
   -- the number is 0 exactly when the hand holds a target

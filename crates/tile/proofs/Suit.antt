@@ -1,17 +1,16 @@
 -- The right answer for one suit: it is one, it is small, and what it is for no pair and no meld.
 -- Assumes nothing.
 use mathlib.Core.Path.{_≡_, refl, sym, ap, _∙_}
-use mathlib.Core.Logic.{_⊎_, inl, inr}
 use mathlib.Core.List.{List}
-use Prim.Native.Nat.{ℕ, _+_, _*_, _^_, _≤_, _<_}
+use Prim.Native.Nat.{ℕ, _^_, _<_}
 use native.Mathlib.Omega.{arith}
 use lib.ListN.{getD, replicate}
 use lib.Pow.{pow-pos}
 use Rattle.tile.specs.Board.{Board}
 use Rattle.tile.specs.Target.{Built, Target}
 use Rattle.tile.specs.Target.Built.{nothing}
-use Rattle.tile.specs.Answer.{Exactly}
-use Rattle.tile.specs.Suit.{Right}
+use Rattle.tile.specs.Answer.{Exactly, Answer}
+use Rattle.tile.specs.Suit.{unfound, Right}
 use Rattle.tile.specs.Suit.Right.{answer, no-target}
 use Rattle.tile.specs.declared.found.Found.{Found}
 use Rattle.tile.proofs.Counts.{zeros-at}
@@ -29,15 +28,19 @@ module _ {b : Board} {bound p m : ℕ} {h : List ℕ} {r : Found} where
   right-once (no-target none e) (answer y) = let (t, tg, l) = y .number .some in absurd (none t tg)
   right-once (no-target none e) (no-target none′ e′) = e ∙ sym e′
 
+  -- where there is no target it is the bound and empty sets, and where there is one it is the answer
+  pub right-none : ((t : List ℕ) → Target b p m t → ⊥) → Right b bound p m h r → r ≡ unfound bound
+  right-none none (answer a) = let (t, tg, l) = a .number .some in absurd (none t tg)
+  right-none none (no-target none′ e) = e
+
+  pub right-some : {t : List ℕ} → Target b p m t → Right b bound p m h r → Answer (b .kinds) (Target b p m) h (r .number) (r .necessary) (r .unnecessary)
+  right-some tg (answer a) = a
+  right-some {t} tg (no-target none e) = absurd (none t tg)
+
   -- the sets have no kinds beyond the board's
   pub right-small : Right b bound p m h r → (r .necessary < 2 ^ b .kinds) × (r .unnecessary < 2 ^ b .kinds)
   right-small (answer a) = (a .necessary .small, a .unnecessary .small)
   right-small (no-target none e) = rw e (pow-pos (b .kinds), pow-pos (b .kinds))
-
-  -- the number is at most all tiles of a target, or the bound where there is none
-  pub right-number : Right b bound p m h r → (r .number ≤ 3 * m + 2 * p) ⊎ (r .number ≡ bound)
-  right-number (answer a) = inl (number-at-most (a .number))
-  right-number (no-target none e) = inr (ap (λ (s : Found). s .number) e)
 
 -- ---- no pair and no meld: the one target is nothing
 

@@ -6,7 +6,7 @@ use Prim.Native.Nat.{ℕ, _/_, _%_, _<_}
 use lib.ListN.{length, getD, replicate}
 use Rattle.tile.specs.Board.{Board}
 use Rattle.tile.specs.Refusal.{First, SuitFault, mostTiles}
-use Rattle.tile.specs.Suit.{unfound, Right}
+use Rattle.tile.specs.Suit.{blank, Right}
 use Rattle.tile.specs.declared.found.Found.{Found}
 use Rattle.tile.specs.declared.refusal.Reason.{Reason}
 use Rattle.tile.specs.declared.one_suit.Checked.{Checked}
@@ -15,9 +15,10 @@ use Rattle.tile.specs.declared.one_suit.Checked.the-variants.{Fine, Faul
 -- r has the right answer for each of the ten goals
 pub record AllRight (b : Board) (h : List ℕ) (r : List Found) : Type 0 where
   pub ten : length r ≡ 10
-  pub each : (g : ℕ) → g < 10 → Right b mostTiles (g / 5) (g % 5) h (getD r g (unfound 0))
+  pub each : (g : ℕ) → g < 10 → Right b mostTiles (g / 5) (g % 5) h (getD r g blank)
 
--- what is promised for the ten goals: a refusal by the first fault and ten times zero, or all right answers where there is none
+-- what is promised for the ten goals: a refusal by the first fault and ten times zero, or all right answers where there is none;
+-- no goal is asked for, so the faults are those of the goal 0 0, which is never at fault itself
 abbrev pub GoalsPromised : Board → List ℕ → Checked → List Found → Type 0
-GoalsPromised b h (Faulty q) r = First (SuitFault b 0 0 h) q × (r ≡ replicate 10 (unfound 0))
+GoalsPromised b h (Faulty q) r = First (SuitFault b 0 0 h) q × (r ≡ replicate 10 blank)
 GoalsPromised b h Fine r = ((q : Reason) → SuitFault b 0 0 h q → ⊥) × AllRight b h r

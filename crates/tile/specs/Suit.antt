@@ -6,7 +6,7 @@ use Prim.Native.Nat.{ℕ}
 use Rattle.tile.specs.Board.{Board, ranks, honours, ends}
 use Rattle.tile.specs.Target.{Target}
 use Rattle.tile.specs.Answer.{Answer}
-use Rattle.tile.specs.Refusal.{First, SuitFault, mostTiles}
+use Rattle.tile.specs.Refusal.{codeOf, indexOf, First, SuitFault, mostTiles}
 use Rattle.tile.specs.declared.found.Found.{Found}
 use Rattle.tile.specs.declared.refusal.Reason.{Reason}
 use Rattle.tile.specs.declared.one_suit.Suit.{Suit}
@@ -22,6 +22,19 @@ unfound bound = record { number = bound; necessary = 0; unnecessary = 0 }
 pub data Right (b : Board) (bound p m : ℕ) (h : List ℕ) (r : Found) : Type 0 where
   answer : Answer (b .kinds) (Target b p m) h (r .number) (r .necessary) (r .unnecessary) → Right b bound p m h r
   no-target : ((t : List ℕ) → Target b p m t → ⊥) → r ≡ unfound bound → Right b bound p m h r
+
+-- 01's number and values for each case of an answer: 0 with what was found, or the number of a refusal with its index and zeros
+abbrev pub blank : Found
+blank = record { number = 0; necessary = 0; unnecessary = 0 }
+
+pub record Values : Type 0 where
+  pub code : ℕ
+  pub index : ℕ
+  pub found : Found
+
+abbrev pub valuesOf : SuitAnswer → Values
+valuesOf (Answered r) = record { code = 0; index = 0; found = r }
+valuesOf (Refused q) = record { code = codeOf q; index = indexOf q; found = blank }
 
 -- which board a suit is built on
 abbrev pub boardOf : Suit → Board

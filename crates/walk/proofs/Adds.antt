@@ -15,7 +15,8 @@ use Rattle.tile.proofs.Tests.{by-test, and-first, and-fails}
 use Rattle.tile.proofs.Counts.{Within, lack-within}
 use Rattle.walk.specs.Choice.{pairsOf, meldsOf}
 use Rattle.walk.specs.Walk.{choicesAt, fits, laid, upTo, tried, walk}
-use Rattle.walk.proofs.Leaf.{Leaf, leaf-grows}
+use Rattle.walk.specs.Leaf.{Leaf}
+use Rattle.walk.proofs.Leaf.{leaf-grows}
 use Rattle.walk.proofs.Best.{Or, Best, best-same, best-skip, best-join}
 
 module _ (n : ℕ) (h : List ℕ) (bound : ℕ) where

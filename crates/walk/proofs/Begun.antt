@@ -1,5 +1,4 @@
--- A target on its way: what can be laid when the walk comes to a rank, how much of it is lacked, and how many tiles it has.
--- No count passes four, though only the rank that is filled is tested: a rank gets at most two tiles from each of the two ranks before it.
+-- A target on its way, one choice later: what is laid then, how much of it is lacked, and how many tiles it has.
 -- Assumes nothing.
 use mathlib.Core.Path.{_≡_, refl, ap, _∙_}
 use mathlib.Core.Logic.{⊎-elim}
@@ -14,6 +13,7 @@ use Rattle.tile.proofs.Tests.{at-most-or-over, and-first}
 use Rattle.tile.proofs.Counts.{length-more, sum-there, lack-as, lack-end, lack-next}
 use Rattle.walk.specs.Choice.{sequencesOf, pairsOf, meldsOf, tilesOf}
 use Rattle.walk.specs.Walk.{laid}
+use Rattle.walk.specs.Begun.{Begun}
 use Rattle.walk.proofs.Choice.{choice-small}
 use Rattle.walk.proofs.Sane.{Lays}
 use Rattle.walk.proofs.Spread.{spread, spread-at, spread-next, spread-third, spread-beyond, spread-earlier, spread-length}
@@ -43,12 +43,6 @@ seen (suc i) (suc j) = go (seen i j)
 
 pub may-inside : (b : Board) (j : ℕ) → T (mayHold b j) → j < b .kinds
 may-inside b j x = ltb→lt j (b .kinds) (and-first (ltb j (b .kinds)) (b .held j) x)
-
--- on the way to rank i: up to rank i at most four tiles of a kind, of the next rank two, after it none, and none of a kind that may not be held
-pub record Begun (b : Board) (i : ℕ) (t : List ℕ) : Type 0 where
-  pub few : (j : ℕ) → getD t j 0 ≤ copies - 2 * (j - i)
-  pub only : (j : ℕ) → (T (mayHold b j) → ⊥) → getD t j 0 ≡ 0
-  pub long : b .kinds ≤ length t
 
 -- and so on the way to any later rank
 pub begun-later : {b : Board} {i : ℕ} {t : List ℕ} (j : ℕ) → i ≤ j → Begun b i t → Begun b j t

@@ -12,6 +12,7 @@ use Rattle.tile.specs.Answer.{Exactly, Answer, Necessary, Unnecessary}
 use Rattle.tile.specs.Suit.{unfound}
 use Rattle.tile.specs.declared.found.Found.{Found}
 use Rattle.tile.proofs.Tests.{at-most-or-over}
+use Rattle.tile.proofs.Sense.{one-target}
 use Rattle.tile.proofs.Sets.{exactly-as, exactly-none, exactly-beyond, exactly-or}
 use Rattle.walk.specs.Walk.{alone, join}
 use Rattle.walk.proofs.Steps.{join-less, join-equal, join-more}
@@ -85,12 +86,8 @@ module _ {n : ℕ} {h : List ℕ} {bound : ℕ} where
   best-one : (t : List ℕ) → Best n h bound (λ u. u ≡ t) (alone n h t)
   unfolding alone
   best-one t =
-      record {
-        some = inr (t, refl, refl);
-        none-fewer = λ u e. rw e (omega arith);
-        necessary = shown-one n h (More h) t refl (exactly-beyond n t h);
-        unnecessary = shown-one n h (Fewer h) t refl (exactly-beyond n h t);
-      }
+      let a = one-target n t h in
+      record { some = inr (a .number .some); none-fewer = a .number .none-fewer; necessary = a .necessary; unnecessary = a .unnecessary }
 
   -- one target more: a smaller lack replaces what was found, an equal one joins it, a greater one leaves it
   pub best-join : (t : List ℕ) {S : List ℕ → Type 0} {r : Found} → Best n h bound S r → Best n h bound (Or S (λ u. u ≡ t)) (join n h t r)

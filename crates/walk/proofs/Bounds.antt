@@ -7,9 +7,11 @@ use native.Mathlib.Omega.{arith}
 use Rattle.tile.specs.Count.{sumTo, lackTo}
 use Rattle.tile.specs.Board.{Board}
 use Rattle.tile.proofs.Counts.{lack-both}
-use Rattle.walk.proofs.Leaf.{Leaf, of-fits}
+use Rattle.walk.specs.Leaf.{Leaf}
+use Rattle.walk.proofs.Leaf.{of-fits}
 use Rattle.walk.proofs.Sane.{Sane, may-lay}
-use Rattle.walk.proofs.Begun.{Begun, laid-begun, laid-sum, beyond-passed}
+use Rattle.walk.specs.Begun.{Begun}
+use Rattle.walk.proofs.Begun.{laid-begun, laid-sum, beyond-passed}
 
 module _ (b : Board) (sane : Sane b) (h : List ℕ) where
   -- all tiles of the target and those that the hand has beyond it at the ranks passed, less all that the hand holds, are lacked at least

@@ -16,7 +16,8 @@ use Rattle.tile.proofs.Tests.{at-most-or-over}
 use Rattle.tile.proofs.Counts.{more-at}
 use Rattle.walk.specs.Walk.{triedWhere, laid}
 use Rattle.walk.proofs.Choice.{choiceFor, no-choice-missing}
-use Rattle.walk.proofs.Leaf.{Leaf, to-fits}
+use Rattle.walk.specs.Leaf.{Leaf}
+use Rattle.walk.proofs.Leaf.{to-fits}
 use Rattle.walk.proofs.Spread.{spread, spread-after, spread-before, spread-length}
 use Rattle.walk.proofs.Laid.{Part, tilesIn, Laying, First, laying-within, in-order, alike, built-laid}
 use Rattle.walk.proofs.Laid.Laying.{done, next}

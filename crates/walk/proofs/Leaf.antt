@@ -1,9 +1,8 @@
--- The ends of the walk without its cuts: what the choices, each where it fits, can make of a target.
+-- What fits, and how the choices grow a target.
 -- Assumes nothing.
-use mathlib.Core.Path.{_≡_}
 use mathlib.Core.Bool.{Bool, _&&_}
 use mathlib.Core.List.{List}
-use Prim.Native.Nat.{ℕ, zero, suc, _+_, _-_, _≤_, _<_}
+use Prim.Native.Nat.{ℕ, zero, suc, _+_, _-_, _≤_}
 use native.Mathlib.Nat.{le-refl}
 use native.Mathlib.Omega.{arith}
 use lib.ListN.{getD}
@@ -13,7 +12,8 @@ use Rattle.tile.specs.Board.{Board}
 use Rattle.tile.proofs.Tests.{and-first, and-second, and-both}
 use Rattle.tile.proofs.Counts.{Within}
 use Rattle.walk.specs.Choice.{sequencesOf, pairsOf, meldsOf, tilesOf}
-use Rattle.walk.specs.Walk.{choicesAt, fits, laid}
+use Rattle.walk.specs.Walk.{fits, laid}
+use Rattle.walk.specs.Leaf.{Leaf}
 use Rattle.walk.proofs.Spread.{spread, spread-within}
 
 -- what `fits` tests
@@ -51,13 +51,7 @@ unfolding laid spread
 laid-grows t i c = spread-within t i (tilesOf c) (sequencesOf c)
 
 module _ (b : Board) where
-  -- u is a target at which the walk without cuts ends, from rank i with l ranks to go
-  unfoldable pub Leaf : ℕ → ℕ → ℕ → ℕ → List ℕ → List ℕ → Type 0
-  Leaf zero i p m t u = (p ≡ 0) × (m ≡ 0) × (u ≡ t)
-  Leaf (suc l) i p m t u =
-      (c : ℕ) × (c < choicesAt b i) × (T (fits p m t i c) × Leaf l (i + 1) (p - pairsOf c) (m - meldsOf c) (laid t i c) u)
-
-  pub leaf-grows : (l i p m : ℕ) (t u : List ℕ) → Leaf l i p m t u → Within t u
+  pub leaf-grows : (l i p m : ℕ) (t u : List ℕ) → Leaf b l i p m t u → Within t u
   unfolding Leaf
   leaf-grows zero i p m t u (x, y, e) j = rw e (le-refl (getD t j 0))
   leaf-grows (suc l) i p m t u (c, o, (f, k)) j = omega (arith, laid-grows t i c j, leaf-grows l (i + 1) _ _ _ u k j)

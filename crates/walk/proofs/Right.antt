@@ -1,5 +1,6 @@
 -- The walk is right: for every goal and every hand it finds the answer that the definition of a suit's target gives.
 -- Assumes nothing.
+use mathlib.Core.Path.{_≡_}
 use mathlib.Core.Logic.{_↔_, inr, ⊎-elim}
 use mathlib.Core.List.{List}
 use Prim.Native.Nat.{ℕ, _+_, _*_, _≤_, _<_}
@@ -9,17 +10,20 @@ use lib.Dec.{T, ltb→lt}
 use Rattle.tile.specs.Count.{bit}
 use Rattle.tile.specs.Board.{Board, ranks, honours, ends}
 use Rattle.tile.specs.Target.{Target}
+use Rattle.tile.specs.Answer.{Answer}
 use Rattle.tile.specs.Suit.{unfound, Right}
 use Rattle.tile.specs.Suit.Right.{answer, no-target}
 use Rattle.tile.proofs.Tests.{at-most-or-over}
 use Rattle.tile.proofs.Counts.{zeros-at}
+use Rattle.tile.proofs.Size.{target-lack}
+use Rattle.tile.proofs.Suit.{right-none, right-some}
 use Rattle.walk.specs.Walk.{searched}
 use Rattle.walk.proofs.Best.{Best, best-start, best-same, best-answer, best-none}
 use Rattle.walk.proofs.Adds.{walk-adds}
 use Rattle.walk.proofs.Sane.{Sane}
 use Rattle.walk.proofs.Sound.{leaf-target}
 use Rattle.walk.proofs.Complete.{target-leaf}
-use Rattle.walk.proofs.Room.{heldIn, target-lack, leaf-some, leaf-room}
+use Rattle.walk.proofs.Room.{heldIn, leaf-some, leaf-room}
 
 -- ---- over any board
 
@@ -94,3 +98,10 @@ module _ (p m : ℕ) where
         ⊎-elim (λ room. let (t, tg) = ends-some one .1 room in with-target ends sane-ends p m one h bound t tg fits)
         (λ full. without-target ends sane-ends p m one h bound (λ t tg. omega (arith, ends-some one .0 (t, tg))))
         (at-most-or-over (p + m) 2)
+
+    -- so for (0,3), (0,4), (1,2), (1,3) and (1,4) 1m/9m give the bound and empty sets, and else the answer
+    pub ends-unfound : 2 < p + m → searched ends h bound p m ≡ unfound bound
+    ends-unfound full = right-none (λ t tg. omega (arith, ends-some one .0 (t, tg))) ends-right
+
+    pub ends-found : p + m ≤ 2 → let r = searched ends h bound p m in Answer 9 (Target ends p m) h (r .number) (r .necessary) (r .unnecessary)
+    ends-found room = let (t, tg) = ends-some one .1 room in right-some tg ends-right

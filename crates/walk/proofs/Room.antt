@@ -3,30 +3,25 @@
 use mathlib.Core.Path.{_≡_, refl}
 use mathlib.Core.Bool.{Bool, true, false, cond}
 use mathlib.Core.List.{List}
-use Prim.Native.Nat.{ℕ, zero, suc, _+_, _-_, _*_, _≤_, _<_}
+use Prim.Native.Nat.{ℕ, zero, suc, _+_, _-_, _≤_, _<_}
 use native.Mathlib.Nat.{le-refl}
 use native.Mathlib.Omega.{arith}
 use lib.ListN.{getD}
 use lib.Dec.{T}
-use Rattle.tile.specs.Count.{bit, more, lackTo}
+use Rattle.tile.specs.Count.{bit, more}
 use Rattle.tile.specs.Board.{Board}
-use Rattle.tile.specs.Target.{Target}
-use Rattle.tile.proofs.Counts.{more-most, more-off, lack-sum}
+use Rattle.tile.proofs.Counts.{more-most, more-off}
 use Rattle.tile.proofs.Sets.{bit-le}
-use Rattle.tile.proofs.Size.{target-size}
 use Rattle.walk.specs.Choice.{sequencesOf, pairsOf, meldsOf, tilesOf}
 use Rattle.walk.specs.Walk.{triedWhere, laid}
 use Rattle.walk.proofs.Choice.{choice-flat}
-use Rattle.walk.proofs.Leaf.{Fits, of-fits, to-fits, Leaf}
+use Rattle.walk.specs.Leaf.{Leaf}
+use Rattle.walk.proofs.Leaf.{Fits, of-fits, to-fits}
 
 -- how many of the l kinds from i on may be held
 unfoldable pub heldIn : Board → ℕ → ℕ → ℕ
 heldIn b zero i = 0
 heldIn b (suc l) i = bit (b .held i) + heldIn b l (i + 1)
-
--- a target lacks at most all its tiles
-pub target-lack : {b : Board} {p m : ℕ} {t : List ℕ} (h : List ℕ) → Target b p m t → lackTo (b .kinds) t h ≤ 3 * m + 2 * p
-target-lack {b} {t = t} h tg = omega (arith, target-size tg, lack-sum (b .kinds) t h)
 
 -- ---- enough room: a leaf
 

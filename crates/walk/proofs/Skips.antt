@@ -17,7 +17,8 @@ use Rattle.tile.proofs.Counts.{lack-within}
 use Rattle.walk.specs.Choice.{meldsOf}
 use Rattle.walk.specs.Walk.{triedWhere, choicesAt, fits, laid, upTo, join, tried, walk}
 use Rattle.walk.proofs.Spread.{spread, spread-none}
-use Rattle.walk.proofs.Leaf.{Leaf, leaf-grows}
+use Rattle.walk.specs.Leaf.{Leaf}
+use Rattle.walk.proofs.Leaf.{leaf-grows}
 use Rattle.walk.proofs.Choice.{choice-lays}
 use Rattle.walk.proofs.Steps.{join-more, over-melds, over-pairs, cut, entered}
 

@@ -18,7 +18,8 @@ use Rattle.tile.proofs.Built.Piece.{two, three, run}
 use Rattle.walk.specs.Choice.{sequencesOf, tripletsOf, pairsOf, tilesOf}
 use Rattle.walk.specs.Walk.{laid}
 use Rattle.walk.proofs.Sane.{Sane, starts-there, holds-there}
-use Rattle.walk.proofs.Leaf.{Leaf, of-fits}
+use Rattle.walk.specs.Leaf.{Leaf}
+use Rattle.walk.proofs.Leaf.{of-fits}
 use Rattle.walk.proofs.Spread.{spread, spread-none, spread-here, spread-add, spread-before}
 use Rattle.walk.proofs.Laid.{tilesIn}
 

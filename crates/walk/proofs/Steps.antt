@@ -67,7 +67,7 @@ module _ (n : ℕ) (h : List ℕ) (deeper : ℕ → ℕ → List ℕ → Found �
         unfolding tried
         cut f = simp (le-leb, lt-leb)
 
--- ---- one rank, and the end
+-- ---- one rank
 
 module _ (b : Board) (h : List ℕ) (i p m : ℕ) (t : List ℕ) (r : Found) where
   -- the choices of rank i, with `left` ranks after it
@@ -78,24 +78,9 @@ module _ (b : Board) (h : List ℕ) (i p m : ℕ) (t : List ℕ) (r : Found) whe
   unfolding walk
   walk-rank left = refl
 
-  pub walk-met : p ≡ 0 → m ≡ 0 → walk b h 0 i p m t r ≡ join (b .kinds) h t r
-  unfolding walk
-  walk-met x y = simp eq-eqb
-
-  pub walk-pairs-left : (p ≡ 0 → ⊥) → walk b h 0 i p m t r ≡ r
-  unfolding walk
-  walk-pairs-left x = simp ne-eqb
-
-  pub walk-melds-left : p ≡ 0 → (m ≡ 0 → ⊥) → walk b h 0 i p m t r ≡ r
-  unfolding walk
-  walk-melds-left x y = simp (eq-eqb, ne-eqb)
-
   -- the same by the rank alone, as code has it: `kinds - i` ranks are left
   abbrev from : ℕ → Found
   from left = walk b h left i p m t r
 
   pub rank-left : i < b .kinds → from (b .kinds - i) ≡ atRank (b .kinds - (i + 1))
   rank-left l = let e : b .kinds - i ≡ suc (b .kinds - (i + 1)) = omega arith in ap from e ∙ walk-rank (b .kinds - (i + 1))
-
-  pub end-left : i ≡ b .kinds → from (b .kinds - i) ≡ from 0
-  end-left e = let z : b .kinds - i ≡ 0 = omega arith in ap from z

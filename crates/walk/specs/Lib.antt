@@ -1,2 +1,4 @@
 pub mod Choice
 pub mod Walk
+pub mod Leaf
+pub mod Begun

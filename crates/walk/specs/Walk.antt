@@ -29,7 +29,7 @@ unfoldable pub laid : List ℕ → ℕ → ℕ → List ℕ
 laid t i c = more (more (more t i (tilesOf c)) (i + 1) (sequencesOf c)) (i + 2) (sequencesOf c)
 
 -- f for 0, then for 1, and so on, n times
-unfoldable pub upTo : (ℕ → Found → Found) → ℕ → Found → Found
+unfoldable pub upTo : {A : Type 0} → (ℕ → A → A) → ℕ → A → A
 upTo f zero r = r
 upTo f (suc n) r = f n (upTo f n r)
 

@@ -8,7 +8,7 @@ use lib.Seq.{getD-set-same, getD-set-other}
 use borrow.Author.Count.{below-none, below-more}
 use borrow.Author.Needs.{needs}
 use Rattle.tile.specs.Refusal.{mostTiles}
-use Rattle.tile.specs.Suit.{unfound, Right, boardOf}
+use Rattle.tile.specs.Suit.{blank, Right, boardOf}
 use Rattle.suit.proofs.Faults.{fine}
 use Rattle.suit.proofs.entry.goals.Statement.{statement}
 use Rattle.suit.proofs.entry.goals.Tie as tie
@@ -17,7 +17,7 @@ abbrev Inv-loop : tie.InvT-loop
 Inv-loop suit counts goals₀ checked goal₀ goals goal =
     (goal ≤ 10)
     × (length goals ≡ 10)
-    × ((g : ℕ) → g < goal → Right (boardOf suit) mostTiles (g / 5) (g % 5) counts (getD goals g (unfound 0)))
+    × ((g : ℕ) → g < goal → Right (boardOf suit) mostTiles (g / 5) (g % 5) counts (getD goals g blank))
 
 abbrev μ-loop : tie.MeasureT-loop
 μ-loop suit counts goals₀ checked goal₀ goals goal = 10 - goal

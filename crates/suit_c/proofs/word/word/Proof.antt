@@ -1,14 +1,15 @@
 -- `suit_c::word::word` meets its contract, variant by variant.
 -- Assumes nothing.
+use native.Mathlib.Omega.{arith}
 use borrow.Author.Needs.{needs}
 use Rattle.suit_c.proofs.word.word.Statement.{statement}
 use Rattle.suit_c.proofs.word.word.Tie as tie
 
 returns : tie.Need-returns
-returns c = rw (c .before .before .before .before .answer .given .1)
+returns c = rw (c .before .before .before .before .answer .given .1) (omega arith)
 
 returns-2 : tie.Need-returns-2
-returns-2 c = rw (c .before .before .before .answer2 .given .1, c .before .index .ensures, c .code .ensures)
+returns-2 c = rw (c .before .before .before .answer2 .given .1, c .before .index .ensures, c .code .ensures) (omega arith)
 
 pub word-spec : {M : Type 1} → statement M
 word-spec =

@@ -1,19 +1,8 @@
-// How far a hand is from one target (01 "What a target is"): where the two differ, over the first n kinds, so that all suits share it.
-// What is lacked is not summed here: the search keeps it as a running number.
+// Where a hand and a target differ (01 "What a target is"): the kinds of which the one holds more than the other.
+// Over the first n kinds, so that all suits share it. What is lacked is not summed here: the search keeps it as a running number.
 ghost use mathlib.Core.Path.{_≡_};
-ghost use Prim.Native.Nat.{_-_};
 ghost use Rattle.tile.specs.Count.{beyondTo};
-ghost use Rattle.suit.specs.Distance.{Spans};
-
-// `a` less `b`, and 0 where that would be negative.
-pub(crate) fn minus(a: u8, b: u8) -> u8
-    ensures { λ r. ⌜ r ≡ a - b ⌝ }
-{
-    if a < b {
-        return 0;
-    }
-    a - b
-}
+ghost use Rattle.suit.specs.Sets.{Spans};
 
 // The kinds of which `a` holds more than `b`.
 fn beyond(n: usize, a: &[u8], b: &[u8]) -> u16

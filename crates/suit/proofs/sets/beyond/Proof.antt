@@ -1,4 +1,4 @@
--- `suit::distance::beyond` meets its contract. The loop's invariant: the set is that of the kinds passed.
+-- `suit::sets::beyond` meets its contract. The loop's invariant: the set is that of the kinds passed.
 -- Assumes nothing.
 use mathlib.Core.Path.{_≡_, refl, _∙_}
 use mathlib.Core.Logic.{⊎-elim}
@@ -11,8 +11,8 @@ use native.Mathlib.Omega.{arith}
 use borrow.Author.Tests.{lt-ltb, le-ltb}
 use Rattle.tile.specs.Count.{setTo, beyondTo}
 use Rattle.suit.proofs.Bit.{joins, stays}
-use Rattle.suit.proofs.distance.beyond.Statement.{statement}
-use Rattle.suit.proofs.distance.beyond.Tie as tie
+use Rattle.suit.proofs.sets.beyond.Statement.{statement}
+use Rattle.suit.proofs.sets.beyond.Tie as tie
 
 abbrev Inv-loop : tie.InvT-loop
 Inv-loop n a b set₀ kind₀ set kind = (kind ≤ n) × (set ≡ beyondTo kind a b)
