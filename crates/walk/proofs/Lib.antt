@@ -1,5 +1,5 @@
 -- From the choices to the theorem: a walk's ends (Leaf) are the targets (Sound, Complete), what it finds is the best of its ends (Best, Adds),
--- and so its answer is right (Right). Steps, Skips and Longer are what code needs of the walk.
+-- and so its answer is right (Right). Steps, Skips, Begun, Bounds and Longer are what code needs of the walk.
 pub mod Choice
 pub mod Spread
 pub mod Leaf
