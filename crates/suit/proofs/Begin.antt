@@ -12,8 +12,8 @@ use Rattle.tile.specs.Board.{mayHold}
 use Rattle.tile.specs.Suit.{unfound, boardOf, Right}
 use Rattle.tile.specs.declared.one_suit.Suit.{Suit}
 use Rattle.tile.specs.declared.one_suit.Suit.the-variants.{Ranks, Honours, Ends}
-use Rattle.tile.proofs.Counts.{zeros-at}
 use Rattle.walk.specs.Walk.{walk, searched}
+use Rattle.walk.proofs.Begun.{zeros-begun}
 use Rattle.walk.proofs.Longer.{searched-longer}
 use Rattle.walk.proofs.Right.{ranks-right, honours-right, ends-right}
 use Rattle.suit.specs.Task.{taskOf}
@@ -21,6 +21,7 @@ use Rattle.suit.specs.Ready.{Ready}
 use Rattle.suit.specs.declared.task.Task.{Task}
 use Rattle.suit.specs.declared.aim.Aim.{Aim}
 use Rattle.suit.proofs.Faults.{kinds-most}
+use Rattle.suit.proofs.Stepped.{stepped}
 
 -- nothing laid, p pairs and m melds to lay
 abbrev pub nothingLaid : ℕ → ℕ → Aim
@@ -30,11 +31,6 @@ suit-of : (s : Suit) (held : ℕ) → taskOf s held .suit ≡ s
 suit-of Ranks held = refl
 suit-of Honours held = refl
 suit-of Ends held = refl
-
-kinds-of : (s : Suit) (held : ℕ) → taskOf s held .kinds ≡ boardOf s .kinds
-kinds-of Ranks held = refl
-kinds-of Honours held = refl
-kinds-of Ends held = refl
 
 -- the first rank of each suit may be held
 first-held : (s : Suit) → T (mayHold (boardOf s) 0)
@@ -46,15 +42,18 @@ module _ (s : Suit) (h : List ℕ) (p m : ℕ) (k : Task) (task : k ≡ taskOf s
   same-suit : k .suit ≡ s
   same-suit = ap (λ (z : Task). z .suit) task ∙ suit-of s (sumTo (length h) h)
 
+  task-same : k ≡ taskOf (k .suit) (sumTo (length h) h)
+  task-same = task ∙ ap (λ (z : Suit). taskOf z (sumTo (length h) h)) (sym same-suit)
+
   pub begin-ready : length h ≡ boardOf s .kinds → Few h → p ≤ 1 → m ≤ 5 → Ready h k 0 (nothingLaid p m)
   unfolding lackTo
   begin-ready long few one five =
       record {
-        task = task ∙ ap (λ (z : Suit). taskOf z (sumTo (length h) h)) (sym same-suit);
+        task = task-same;
         long = rw same-suit long;
         few = few;
         held = first-held (k .suit);
-        begun = record { few = λ j. omega (arith, zeros-at 9 j); only = λ j barred. zeros-at 9 j; long = kinds-most (k .suit) };
+        begun = zeros-begun (boardOf (k .suit)) 9 (kinds-most (k .suit));
         here = refl;
         next = refl;
         lack = refl;
@@ -70,5 +69,6 @@ module _ (s : Suit) (h : List ℕ) (p m : ℕ) (k : Task) (task : k ≡ taskOf s
   pub begin-right : (bound : ℕ) → p ≤ 1 → m ≤ 5 → 3 * m + 2 * p ≤ bound
       → Right (boardOf s) bound p m h (walk (boardOf (k .suit)) h (k .kinds - 0) 0 p m (replicate 9 0) (unfound bound))
   begin-right bound one five fits =
-      let kinds : k .kinds - 0 ≡ boardOf s .kinds = rw sub-zero (ap (λ (z : Task). z .kinds) task ∙ kinds-of s (sumTo (length h) h)) in
+      let steps = stepped k (sumTo (length h) h) 0 task-same (first-held (k .suit)) in
+      let kinds : k .kinds - 0 ≡ boardOf s .kinds = rw sub-zero (steps .kinds ∙ ap (λ (z : Suit). boardOf z .kinds) same-suit) in
       rw (same-suit, kinds, searched-longer (boardOf s) h 9 bound p m (kinds-most s)) (right-of bound one five fits s)

@@ -5,12 +5,12 @@ use mathlib.Core.Logic.{⊎-elim}
 use mathlib.Core.List.{List}
 use Prim.Native.Nat.{ℕ, zero, suc, _+_, _-_, _*_, _≤_, _<_}
 use native.Mathlib.Omega.{arith}
-use lib.ListN.{length, getD}
+use lib.ListN.{length, getD, replicate, length-replicate}
 use lib.Dec.{T, ltb, ltb→lt}
 use Rattle.tile.specs.Count.{copies, Few, more, sumTo, lackTo}
 use Rattle.tile.specs.Board.{Board, mayHold}
 use Rattle.tile.proofs.Tests.{at-most-or-over, and-first}
-use Rattle.tile.proofs.Counts.{length-more, sum-there, lack-as, lack-end, lack-next}
+use Rattle.tile.proofs.Counts.{length-more, zeros-at, sum-there, lack-as, lack-end, lack-next}
 use Rattle.walk.specs.Choice.{sequencesOf, pairsOf, meldsOf, tilesOf}
 use Rattle.walk.specs.Walk.{laid}
 use Rattle.walk.specs.Begun.{Begun}
@@ -44,7 +44,11 @@ seen (suc i) (suc j) = go (seen i j)
 pub may-inside : (b : Board) (j : ℕ) → T (mayHold b j) → j < b .kinds
 may-inside b j x = ltb→lt j (b .kinds) (and-first (ltb j (b .kinds)) (b .held j) x)
 
--- and so on the way to any later rank
+-- with nothing laid the way begins
+pub zeros-begun : (b : Board) (w : ℕ) → b .kinds ≤ w → Begun b 0 (replicate w 0)
+zeros-begun b w l = record { few = λ j. omega (arith, zeros-at w j); only = λ j barred. zeros-at w j; long = omega (arith, length-replicate w zero) }
+
+-- what is on the way to a rank is on the way to any later rank
 pub begun-later : {b : Board} {i : ℕ} {t : List ℕ} (j : ℕ) → i ≤ j → Begun b i t → Begun b j t
 begun-later j l g = record { few = λ x. omega (arith, g .few x); only = g .only; long = g .long }
 

@@ -5,6 +5,7 @@ pub mod Spread
 pub mod Leaf
 pub mod Laid
 pub mod Sane
+pub mod Begun
 pub mod Sound
 pub mod Complete
 pub mod Room
@@ -13,7 +14,6 @@ pub mod Best
 pub mod Adds
 pub mod Right
 pub mod Skips
-pub mod Begun
 pub mod Bounds
 pub mod Longer
 mod Example

@@ -1,26 +1,25 @@
 -- Every leaf of the walk is a target: each choice is laid meld by meld, and fits into four tiles of its rank.
 -- Assumes nothing.
 use mathlib.Core.Path.{_≡_, refl, sym, ap, ap₂, _∙_}
-use mathlib.Core.Logic.{⊎-elim}
 use mathlib.Core.List.{List}
-use Prim.Native.Nat.{ℕ, zero, suc, _+_, _≤_, _<_}
+use Prim.Native.Nat.{ℕ, zero, suc, _+_, _<_}
+use native.Mathlib.Nat.{le-refl}
 use native.Mathlib.Omega.{arith}
-use lib.ListN.{getD, replicate, List·getD-eq-default}
+use lib.ListN.{replicate}
 use lib.Dec.{T}
-use Rattle.tile.specs.Count.{copies}
 use Rattle.tile.specs.Board.{Board}
 use Rattle.tile.specs.Target.{Built, Target}
 use Rattle.tile.specs.Target.Built.{nothing}
-use Rattle.tile.proofs.Tests.{at-most-or-over}
-use Rattle.tile.proofs.Counts.{more-most, more-off}
-use Rattle.tile.proofs.Built.{lay, built-as, built-length}
+use Rattle.tile.proofs.Built.{lay, built-as}
 use Rattle.tile.proofs.Built.Piece.{two, three, run}
-use Rattle.walk.specs.Choice.{sequencesOf, tripletsOf, pairsOf, tilesOf}
+use Rattle.walk.specs.Choice.{sequencesOf, tripletsOf, pairsOf}
 use Rattle.walk.specs.Walk.{laid}
-use Rattle.walk.proofs.Sane.{Sane, starts-there, holds-there}
+use Rattle.walk.proofs.Sane.{Sane, starts-there, holds-there, may-lay}
+use Rattle.walk.proofs.Begun.{zeros-begun, begun-later, begun-few, laid-begun}
+use Rattle.walk.specs.Begun.{Begun}
 use Rattle.walk.specs.Leaf.{Leaf}
 use Rattle.walk.proofs.Leaf.{of-fits}
-use Rattle.walk.proofs.Spread.{spread, spread-none, spread-here, spread-add, spread-before}
+use Rattle.walk.proofs.Spread.{spread, spread-none, spread-here, spread-add}
 use Rattle.walk.proofs.Laid.{tilesIn}
 
 -- ---- a choice, meld by meld
@@ -45,23 +44,16 @@ module _ {b : Board} (sane : Sane b) (i : ℕ) (l : i < b .kinds) {p m : ℕ} {t
 
 -- ---- a leaf
 
--- a rank that has been passed holds at most four tiles: what fits makes no more, and no later choice adds any there
-spread-few : (t : List ℕ) (i x s : ℕ) → ((j : ℕ) → j < i → getD t j 0 ≤ copies) → getD t i 0 + x ≤ copies
-    → (j : ℕ) → j < i + 1 → getD (spread t i x s) j 0 ≤ copies
-spread-few t i x s few fit j l =
-    let same = spread-before t i x s j (omega arith) in
-    ⊎-elim (λ (over : i ≤ j). let e : j ≡ i = omega arith in omega (arith, more-most t i x j, ap (λ (k : ℕ). getD t k 0) e))
-    (λ under. omega (arith, more-off t i x j (omega arith), few j under)) (at-most-or-over i j)
-
 module _ (b : Board) where
-  leaf-few : (l i p m : ℕ) (t u : List ℕ) → ((j : ℕ) → j < i → getD t j 0 ≤ copies) → Leaf b l i p m t u
-      → (j : ℕ) → j < i + l → getD u j 0 ≤ copies
-  unfolding Leaf laid spread
-  leaf-few zero i p m t u few (x, y, z) j n = rw z (few j (omega arith))
-  leaf-few (suc l) i p m t u few (c, o, (f, k)) j n =
-      leaf-few l (i + 1) _ _ _ u (spread-few t i (tilesOf c) (sequencesOf c) few (of-fits p m t i c f .tiles)) k j (omega arith)
-
   module _ (sane : Sane b) where
+    -- no count passes four on the way, and so none does at its end
+    leaf-begun : (l i p m : ℕ) (t u : List ℕ) → i + l ≡ b .kinds → Begun b i t → Leaf b l i p m t u → Begun b (i + l) u
+    unfolding Leaf
+    leaf-begun zero i p m t u e g (x, y, z) = rw z (begun-later (i + 0) (omega arith) g)
+    leaf-begun (suc l) i p m t u e g (c, o, (f, k)) =
+        let later = laid-begun g c (may-lay b sane i c (omega arith) o) (of-fits p m t i c f .tiles) in
+        begun-later (i + suc l) (omega arith) (leaf-begun l (i + 1) _ _ _ u (omega arith) later k)
+
     leaf-built : (l i p m : ℕ) (t u : List ℕ) {n k : ℕ} → i + l ≡ b .kinds → Built b n k t → Leaf b l i p m t u → Built b (n + p) (k + m) u
     unfolding Leaf laid spread
     leaf-built zero i p m t u e r (x, y, z) = built-as r (omega arith) (omega arith) (sym z)
@@ -74,9 +66,7 @@ module _ (b : Board) where
 
     pub leaf-target : (p m : ℕ) (u : List ℕ) → Leaf b (b .kinds) 0 p m (replicate (b .kinds) 0) u → Target b p m u
     leaf-target p m u k =
-        let r = leaf-built (b .kinds) 0 p m _ u (omega arith) nothing k in
         record {
-          built = built-as r (omega arith) (omega arith) refl;
-          few = λ j. ⊎-elim (λ over. omega (arith, List·getD-eq-default u 0 {n = j} (omega (arith, built-length r))))
-              (λ under. leaf-few (b .kinds) 0 p m _ u (λ j x. absurd (omega arith)) k j (omega arith)) (at-most-or-over (b .kinds) j);
+          built = built-as (leaf-built (b .kinds) 0 p m _ u (omega arith) nothing k) (omega arith) (omega arith) refl;
+          few = begun-few (leaf-begun (b .kinds) 0 p m _ u (omega arith) (zeros-begun b (b .kinds) (le-refl (b .kinds))) k);
         }
