@@ -1,6 +1,8 @@
 -- `suit::aim::is_worth` meets its contract: five tests, one after the other.
 -- Assumes nothing.
-use Prim.Native.Nat.{_+_}
+use mathlib.Core.Path.{ap, ap₂, _∙_}
+use Prim.Native.Nat.{ℕ, _+_}
+use lib.Dec.{leb}
 use native.Mathlib.Omega.{arith}
 use borrow.Author.Needs.{needs}
 use borrow.Author.Tests.{le-leb, lt-leb}
@@ -42,7 +44,8 @@ returns-5 c =
     let s = q .before .before in
     let t = s .before .before .before in
     let a = t .before .before .before .before .before .before .args in
-    rw (le-leb _ _ (t .before .before .before .if1 .left), le-leb _ _ (t .if2 .left), le-leb (a .aim .here + a .choice .tiles) copies (omega (arith, s .if3 .left)), ← q .before .whole-lack .ensures, le-leb _ _ (q .if4 .left)) (cc)
+    rw (le-leb _ _ (t .before .before .before .if1 .left), le-leb _ _ (t .if2 .left), le-leb (a .aim .here + a .choice .tiles) copies (omega (arith, s .if3 .left)), ← q .before .whole-lack .ensures, le-leb _ _ (q .if4 .left))
+    (ap₂ leb (c .before .before .wide .ensures ∙ ap (λ (x : ℕ). a .aim .span + x) (c .before .before .before .before .minus .ensures)) (ap₂ _+_ (c .before .wide2 .ensures) (c .wide3 .ensures)))
 
 pub is-worth-spec : {M : Type 1} → statement M
 is-worth-spec =

@@ -2,6 +2,7 @@
 -- Assumes nothing.
 use mathlib.Core.Path.{sym, _∙_}
 use native.Mathlib.Omega.{arith}
+use lib.Bits.{bitOr}
 use borrow.Author.Needs.{needs}
 use Rattle.walk.proofs.Steps.{join-less, join-equal, join-more}
 use Rattle.walk.specs.Walk.{alone}
@@ -16,7 +17,12 @@ unfolding alone
 returns-2 c = (cc) ∙ sym (join-less _ _ _ _ (omega arith))
 
 returns-3 : tie.Need-returns-3
-returns-3 c = (cc) ∙ sym (join-equal _ _ _ _ (omega arith))
+returns-3 c =
+    let f = c .before .before .before .before .before .before .before .before .before .before .before .args .found in
+    let more = c .before .before .before .before .before .before .necessary .ensures in
+    let fewer = c .before .before .before .before .unnecessary .ensures in
+    (λ i. record { number = f .number; necessary = bitOr (f .necessary) (more i); unnecessary = bitOr (f .unnecessary) (fewer i) })
+    ∙ sym (join-equal _ _ _ _ (omega arith))
 
 pub joined-spec : {M : Type 1} → statement M
 joined-spec =
