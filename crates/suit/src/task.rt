@@ -3,6 +3,8 @@ ghost use mathlib.Core.Path.{_≡_};
 ghost use Prim.Native.Nat.{_+_, _<_};
 ghost use Rattle.suit.specs.Task.{taskOf, choicesFor, roomFor};
 use tile::one_suit::Suit;
+use tile::suits::SuitM;
+use tile::suits::SuitZ;
 
 // The suit by numbers: how many kinds it has, below which rank a sequence may start, and how far it is from one rank that may be held to the next.
 // The search reads the numbers; `suit` is there for what it promises.
@@ -20,21 +22,21 @@ pub(crate) fn task_of(suit: Suit, held: u8) -> Task
     match suit {
         Suit::Ranks => Task {
             suit: suit,
-            kinds: 9,
+            kinds: SuitM::LENGTH,
             runs: 7,
             step: 1,
             held: held,
         },
         Suit::Honours => Task {
             suit: suit,
-            kinds: 7,
+            kinds: SuitZ::LENGTH,
             runs: 0,
             step: 1,
             held: held,
         },
         Suit::Ends => Task {
             suit: suit,
-            kinds: 9,
+            kinds: SuitM::LENGTH,
             runs: 0,
             step: 8,
             held: held,
