@@ -29,6 +29,9 @@ pub and-second : (a b : Bool) → T (a && b) → T b
 and-second true b h = h
 and-second false b h = absurd h
 
+pub and-parts : (a b : Bool) → T (a && b) → T a × T b
+and-parts a b h = (and-first a b h, and-second a b h)
+
 pub and-both : (a b : Bool) → T a → T b → T (a && b)
 and-both true b x y = y
 and-both false b x y = x

@@ -1,0 +1,7 @@
+pub mod Reading
+pub mod Runs
+pub mod Fitting
+pub mod Round
+pub mod Seven
+pub mod Answers
+mod Wide
