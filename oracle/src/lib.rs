@@ -31,6 +31,7 @@ pub mod answer;
 pub mod hand;
 pub mod merged;
 pub mod notation;
+pub mod packing;
 pub mod record;
 pub mod refusal;
 pub mod show;

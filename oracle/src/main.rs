@@ -8,6 +8,8 @@ use oracle::compare::{Sizes, compare};
 use oracle::hand::Hand;
 use oracle::judge::print_counts;
 use oracle::options::Options;
+use oracle::packing::question::Question as WordQuestion;
+use oracle::packing::record::answers as word_answers;
 use oracle::record::answers;
 use oracle::show::show;
 use oracle::suit::question::Question;
@@ -20,11 +22,13 @@ const USAGE: &str = "usage:
   oracle show < hands
   oracle suits < questions > answers
   oracle judge-suits < questions > answers
+  oracle words < questions > answers
   oracle compare [--seed S] [--suits N] [--hands N] [--all-suits]
   oracle targets
   oracle make table > hands
   oracle make hands [--seed S] [--count N] [--broken BYTES] > hands
-  oracle make suits [--seed S] [--count N] > questions";
+  oracle make suits [--seed S] [--count N] > questions
+  oracle make words [--seed S] [--count N] > questions";
 
 fn main() -> ExitCode {
     let mut words = env::args().skip(1);
@@ -47,6 +51,7 @@ fn run(command: &str, mut words: impl Iterator<Item = String>) -> Result<bool, S
         "show" => through(words, |input| Ok(show(input).into_bytes())),
         "suits" => through(words, |input| suit_answers(input, searched::answer)),
         "judge-suits" => through(words, |input| suit_answers(input, judge::suit_answer)),
+        "words" => through(words, word_answers),
         "compare" => run_compare(Options::new(words)),
         "targets" => {
             Options::new(words).end()?;
@@ -90,6 +95,7 @@ fn run_make(what: &str, mut options: Options) -> Result<bool, String> {
         "table" => make::table().iter().flat_map(Hand::record).collect(),
         "hands" => make_hands(&mut options)?,
         "suits" => make_suits(&mut options)?,
+        "words" => make_words(&mut options)?,
         other => return Err(format!("not understood: make {other}")),
     };
     options.end()?;
@@ -114,6 +120,13 @@ fn make_suits(options: &mut Options) -> Result<Vec<u8>, String> {
     let count = options.number("--count", 1_500)?;
     let questions = make::suits::suits(seed, count as usize);
     Ok(questions.iter().flat_map(Question::record).collect())
+}
+
+fn make_words(options: &mut Options) -> Result<Vec<u8>, String> {
+    let seed = options.number("--seed", 1)?;
+    let count = options.number("--count", 1_000)?;
+    let questions = make::words::words(seed, count as usize);
+    Ok(questions.iter().flat_map(WordQuestion::record).collect())
 }
 
 fn write(bytes: &[u8]) -> Result<bool, String> {

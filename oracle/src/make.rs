@@ -1,5 +1,5 @@
-//! The seeded generator of hand records, and below it that of suit questions. The same seed
-//! and count give the same hands.
+//! The seeded generator of hand records, and below it those of suit questions and of word
+//! questions. The same seed and count give the same hands.
 
 mod corners;
 mod deal;
@@ -7,9 +7,13 @@ mod sorts;
 mod spoil;
 pub mod suits;
 mod table;
+pub mod words;
 
 pub use sorts::{accepted, suit};
 pub use table::table;
+
+use std::collections::HashSet;
+use std::hash::Hash;
 
 use crate::hand::Hand;
 use crate::random::Random;
@@ -30,6 +34,16 @@ fn any(random: &mut Random) -> Hand {
         0 => spoil::spoil(random, hand),
         _ => hand,
     }
+}
+
+/// What is made by several rules is asked once; two questions with the same record are one.
+fn once<Q, R: Eq + Hash>(
+    questions: impl IntoIterator<Item = Q>,
+    record: impl Fn(&Q) -> R,
+) -> Vec<Q> {
+    let mut seen = HashSet::new();
+    let new = |question: &Q| seen.insert(record(question));
+    questions.into_iter().filter(new).collect()
 }
 
 #[cfg(test)]

@@ -7,22 +7,35 @@ use super::replacement_number::{
     get_19m_replacement_number, get_shupai_replacement_number, get_zipai_replacement_number,
 };
 use crate::answer::Answer;
-use crate::suit::{Goal, Suit};
+use crate::suit::{GOALS, Goal, Suit};
+use crate::words::Goals;
 
 /// Number, necessary set, unnecessary set.
 pub type Found = (u8, u16, u16);
 
 /// The suit must be one that is not refused.
 pub fn answer(suit: Suit, counts: &[u8], goal: Goal) -> Answer {
-    let (number, necessary, unnecessary) = match suit {
-        Suit::Ranks => ranks(exactly(counts), goal),
-        Suit::Honours => honours(exactly(counts), goal),
-        Suit::Ends => ends(exactly(counts), goal),
-    };
+    let (number, necessary, unnecessary) = found(suit, counts, goal);
     Answer {
         number,
         necessary: necessary.into(),
         unnecessary: unnecessary.into(),
+    }
+}
+
+/// The ten goals of such a suit, each searched by itself.
+pub fn goals(suit: Suit, counts: &[u8]) -> Goals {
+    Goals::new(|goal| {
+        let (number, necessary, unnecessary) = found(suit, counts, GOALS[goal]);
+        (number.into(), necessary, unnecessary)
+    })
+}
+
+fn found(suit: Suit, counts: &[u8], goal: Goal) -> Found {
+    match suit {
+        Suit::Ranks => ranks(exactly(counts), goal),
+        Suit::Honours => honours(exactly(counts), goal),
+        Suit::Ends => ends(exactly(counts), goal),
     }
 }
 
@@ -84,7 +97,6 @@ mod tests {
 
     use super::*;
     use crate::standard::{search, unpack};
-    use crate::suit::GOALS;
 
     fn assert_packed<const N: usize>(key: &[u8; N], found: impl Fn(Goal) -> Found) {
         let goals = unpack(&search(key));

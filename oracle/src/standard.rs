@@ -31,7 +31,7 @@ mod shupai_map;
 mod wanzi_19_map;
 mod zipai_map;
 
-// The published map of 1m/9m under another name, only to compare with.
+// The published map of 1m/9m under another name, to compare with and to ask for.
 #[path = "../verbatim/src/standard/wanzi_19_map.rs"]
 #[rustfmt::skip]
 mod published_19_map;

@@ -1,8 +1,10 @@
 //! The packed words of document 01 ("Packed words"), written from its text and not from
 //! the Rust source, whose packing cannot be run apart from the search.
 
+use std::array;
+
 /// The ten goals of a suit, in the order of document 01.
-#[derive(Clone, Debug, PartialEq, Eq)]
+#[derive(Clone, Debug, Default, PartialEq, Eq)]
 pub struct Goals {
     pub numbers: [u32; 10],
     pub necessary: [u16; 10],
@@ -17,8 +19,52 @@ pub struct Words {
     pub unnecessary: [u32; 3],
 }
 
+/// Number, necessary set and unnecessary set of one goal.
+pub type Values = (u32, u16, u16);
+
 /// Where goals 1 to 9 begin in the number word.
 const NUMBER_SHIFTS: [u32; 9] = [0, 2, 5, 9, 13, 15, 18, 22, 26];
+
+/// How many bits they have there.
+pub const NUMBER_WIDTHS: [u32; 9] = [2, 3, 4, 4, 2, 3, 4, 4, 4];
+
+impl Goals {
+    pub fn new(of: impl Fn(usize) -> Values) -> Self {
+        let goals: [Values; 10] = array::from_fn(of);
+        Goals {
+            numbers: goals.map(|(number, _, _)| number),
+            necessary: goals.map(|(_, necessary, _)| necessary),
+            unnecessary: goals.map(|(_, _, unnecessary)| unnecessary),
+        }
+    }
+
+    pub fn at(&self, goal: usize) -> Values {
+        (
+            self.numbers[goal],
+            self.necessary[goal],
+            self.unnecessary[goal],
+        )
+    }
+}
+
+impl Words {
+    /// From all seven: the number word, three necessary, three unnecessary.
+    pub fn new(seven: [u32; 7]) -> Self {
+        let [number, first, second, third, others @ ..] = seven;
+        Words {
+            number,
+            necessary: [first, second, third],
+            unnecessary: others,
+        }
+    }
+
+    /// In the same order.
+    pub fn seven(&self) -> [u32; 7] {
+        let [first, second, third] = self.necessary;
+        let [fourth, fifth, sixth] = self.unnecessary;
+        [self.number, first, second, third, fourth, fifth, sixth]
+    }
+}
 
 pub fn pack(goals: &Goals) -> Words {
     Words {
@@ -59,4 +105,28 @@ fn pack_unnecessary(sets: &[u16; 10]) -> [u32; 3] {
 /// Three sets of nine bits at 0, 9 and 18.
 fn three(sets: &[u16]) -> u32 {
     u32::from(sets[0]) | u32::from(sets[1]) << 9 | u32::from(sets[2]) << 18
+}
+
+#[cfg(test)]
+mod tests {
+    use super::*;
+
+    #[test]
+    fn numbers_lie_side_by_side() {
+        let mut end = 0;
+        for (shift, width) in NUMBER_SHIFTS.into_iter().zip(NUMBER_WIDTHS) {
+            assert_eq!(shift, end);
+            end += width;
+        }
+        assert_eq!(end, 30);
+    }
+
+    #[test]
+    fn seven_words_in_order() {
+        let words = Words::new([1, 2, 3, 4, 5, 6, 7]);
+        assert_eq!(words.number, 1);
+        assert_eq!(words.necessary, [2, 3, 4]);
+        assert_eq!(words.unnecessary, [5, 6, 7]);
+        assert_eq!(words.seven(), [1, 2, 3, 4, 5, 6, 7]);
+    }
 }

@@ -23,7 +23,7 @@ use Rattle.tile.proofs.Suit.{right-small, right-nothing}
 use Rattle.tile.proofs.Tests.{at-most-or-over, implied, allTo, all-to}
 use Rattle.walk.proofs.Right.{ranks-some, honours-some, ends-some}
 use Rattle.words.specs.declared.packed.Packed.{Packed}
-use Rattle.words.specs.Layout.{Kind, Number, Necessary, Unnecessary, sevenWords}
+use Rattle.words.specs.Layout.{Value, Number, Necessary, Unnecessary, sevenWords}
 use Rattle.words.specs.Limit.{most}
 use Rattle.words.specs.Packing.{valueOf, Fits}
 use Rattle.words.specs.Promise.{wordsOf, PackedFrom, packs, refuses}
@@ -46,7 +46,7 @@ lack-room : (i : ℕ) → i < 10 → 3 * (i % 5) + 2 * (i / 5) ≤ most Number i
 lack-room i u = leb→le _ _ (all-to 10 (λ i. leb (3 * (i % 5) + 2 * (i / 5)) (most Number i)) tt i u)
 
 -- where a test passes, the limit is at least n: computed once for the ten goals
-where-tested : (test : ℕ → Bool) (n : ℕ) (k : Kind) → T (allTo 10 (λ i. not (test i) || leb n (most k i))) → (i : ℕ) → i < 10 → T (test i) → n ≤ most k i
+where-tested : (test : ℕ → Bool) (n : ℕ) (k : Value) → T (allTo 10 (λ i. not (test i) || leb n (most k i))) → (i : ℕ) → i < 10 → T (test i) → n ≤ most k i
 where-tested test n k t i u h = leb→le _ _ (implied (test i) (leb n (most k i)) (all-to 10 (λ i. not (test i) || leb n (most k i)) t i u) h)
 
 -- for 14, where there may be no target
@@ -63,7 +63,7 @@ module _ {b : Board} (s : Suitable b) where
   small : {x : ℕ} → x < 2 ^ b .kinds → x ≤ 0x1FF
   small l = omega (arith, lt-of-lt-of-le l (pow-mono (s .nine)))
 
-  fits : {h : List ℕ} {r : Found} (k : Kind) (i : ℕ) → i < 10 → Right b mostTiles (i / 5) (i % 5) h r → valueOf k r ≤ most k i
+  fits : {h : List ℕ} {r : Found} (k : Value) (i : ℕ) → i < 10 → Right b mostTiles (i / 5) (i % 5) h r → valueOf k r ≤ most k i
   fits Number i u (answer a) = omega (arith, number-at-most (a .number), lack-room i u)
   fits Number i u (no-target none e) =
       ⊎-elim (λ two. let (t, tg) = s .some (i / 5) (i % 5) (omega arith) two in absurd (none t tg))

@@ -13,9 +13,9 @@ use Rattle.tile.specs.Suit.{blank}
 use Rattle.tile.specs.declared.found.Found.{Found}
 use Rattle.tile.proofs.Tests.{and-first, and-second, allTo, all-to}
 use Rattle.words.specs.Field.{Field, back, bits, made, filled}
-use Rattle.words.specs.Layout.{Kind, Number, Necessary, Unnecessary, Layout}
+use Rattle.words.specs.Layout.{Value, Number, Necessary, Unnecessary, Layout}
 use Rattle.words.specs.Packing.{valueOf, valueAt, Fits, wordBy, goalBy, firstOf, goalsBy}
-use Rattle.words.proofs.Fitting.{forKinds, for-kinds, fits-each}
+use Rattle.words.proofs.Fitting.{forValues, for-values, fits-each}
 use Rattle.words.proofs.Reading.{tidy}
 use Rattle.words.proofs.Runs.{gapless, made-less, given-back, cleared-run}
 
@@ -31,9 +31,9 @@ abbrev good : ℕ → List Field → Bool
 good n fs = (below n fs && allTo n (λ i. gapless (map back fs) i 0)) && (tidy fs && tidy (map back fs))
 
 abbrev pub sound : Layout → Bool
-sound l = forKinds (λ k. good (l .goals) (l .fields k))
+sound l = forValues (λ k. good (l .goals) (l .fields k))
 
--- ---- one kind of value
+-- ---- one of the three values
 
 -- where the numbers that are taken from are the same, so is what is made
 alike : (n : ℕ) (fs : List Field) → T (below n fs) → (x y : ℕ → ℕ) → ((j : ℕ) → j < n → x j ≡ y j) → (i : ℕ) → made fs x i ≡ made fs y i
@@ -63,7 +63,7 @@ module _ (n : ℕ) (fs : List Field) (t : T (good n fs)) where
 
 -- ---- goals
 
-same : (f h : Found) → ((k : Kind) → valueOf k f ≡ valueOf k h) → f ≡ h
+same : (f h : Found) → ((k : Value) → valueOf k f ≡ valueOf k h) → f ≡ h
 same f h e = λ i. record { number = e Number i; necessary = e Necessary i; unnecessary = e Unnecessary i }
 
 pub length-first : (n : ℕ) (f : ℕ → Found) → length (firstOf n f) ≡ n
@@ -79,22 +79,22 @@ first-alike : (n : ℕ) (f h : ℕ → Found) → ((i : ℕ) → f i ≡ h i) �
 first-alike zero f h e = refl
 first-alike (suc n) f h e = λ j. e 0 j ∷ first-alike n (λ i. f (suc i)) (λ i. h (suc i)) (λ i. e (suc i)) j
 
-value-by : (l : Layout) (w : Kind → ℕ → ℕ) (i : ℕ) (k : Kind) → valueOf k (goalBy l w i) ≡ made (map back (l .fields k)) (w k) i
+value-by : (l : Layout) (w : Value → ℕ → ℕ) (i : ℕ) (k : Value) → valueOf k (goalBy l w i) ≡ made (map back (l .fields k)) (w k) i
 value-by l w i Number = refl
 value-by l w i Necessary = refl
 value-by l w i Unnecessary = refl
 
 -- words that are the same as far as the fields go make the same goals
-pub goals-alike : (l : Layout) (n : Kind → ℕ) → T (forKinds (λ k. below (n k) (map back (l .fields k)))) → (v w : Kind → ℕ → ℕ)
-    → ((k : Kind) (j : ℕ) → j < n k → v k j ≡ w k j) → goalsBy l v ≡ goalsBy l w
+pub goals-alike : (l : Layout) (n : Value → ℕ) → T (forValues (λ k. below (n k) (map back (l .fields k)))) → (v w : Value → ℕ → ℕ)
+    → ((k : Value) (j : ℕ) → j < n k → v k j ≡ w k j) → goalsBy l v ≡ goalsBy l w
 goals-alike l n t v w h =
     first-alike (l .goals) (goalBy l v) (goalBy l w)
     (λ i. same (goalBy l v i) (goalBy l w i)
-    (λ k. value-by l v i k ∙ alike (n k) (map back (l .fields k)) (for-kinds (λ k. below (n k) (map back (l .fields k))) t k) (v k) (w k) (h k) i ∙ sym (value-by l w i k)))
+    (λ k. value-by l v i k ∙ alike (n k) (map back (l .fields k)) (for-values (λ k. below (n k) (map back (l .fields k))) t k) (v k) (w k) (h k) i ∙ sym (value-by l w i k)))
 
 module _ (l : Layout) (s : T (sound l)) where
-  kind : (k : Kind) → T (good (l .goals) (l .fields k))
-  kind = for-kinds (λ k. good (l .goals) (l .fields k)) s
+  passed : (k : Value) → T (good (l .goals) (l .fields k))
+  passed = for-values (λ k. good (l .goals) (l .fields k)) s
 
   -- goals that fit come back
   pub goals-again : (g : List Found) → length g ≡ l .goals → Fits l g → goalsBy l (wordBy l g) ≡ g
@@ -102,18 +102,18 @@ module _ (l : Layout) (s : T (sound l)) where
       ext-getD blank (goalsBy l (wordBy l g)) g (length-first (l .goals) (goalBy l (wordBy l g)) ∙ sym e)
       (λ i u. let v : i < l .goals = omega (arith, length-first (l .goals) (goalBy l (wordBy l g))) in
       first-at (l .goals) (goalBy l (wordBy l g)) i v
-      ∙ same (goalBy l (wordBy l g) i) (getD g i blank) (λ k. value-by l (wordBy l g) i k ∙ value-again (l .goals) (l .fields k) (kind k) (valueAt k g) i v (f .each k i)))
+      ∙ same (goalBy l (wordBy l g) i) (getD g i blank) (λ k. value-by l (wordBy l g) i k ∙ value-again (l .goals) (l .fields k) (passed k) (valueAt k g) i v (f .each k i)))
 
-  module _ (w : Kind → ℕ → ℕ) where
-    value-made : (k : Kind) (i : ℕ) → i < l .goals → valueAt k (goalsBy l w) i ≡ made (map back (l .fields k)) (w k) i
+  module _ (w : Value → ℕ → ℕ) where
+    value-made : (k : Value) (i : ℕ) → i < l .goals → valueAt k (goalsBy l w) i ≡ made (map back (l .fields k)) (w k) i
     value-made k i u = ap (valueOf k) (first-at (l .goals) (goalBy l w) i u) ∙ value-by l w i k
 
     -- what words make always fits
     pub words-fit : Fits l (goalsBy l w)
     words-fit =
         fits-each l (goalsBy l w) (length-first (l .goals) (goalBy l w))
-        (λ k i u. omega (arith, value-made k i u, made-less (map back (l .fields k)) (w k) i (run (l .goals) (l .fields k) (kind k) i u)))
+        (λ k i u. omega (arith, value-made k i u, made-less (map back (l .fields k)) (w k) i (run (l .goals) (l .fields k) (passed k) i u)))
 
     -- a word comes back with the bits that its fields hold
-    pub words-again : (k : Kind) (j b : ℕ) → T (gapless (l .fields k) j b) → wordBy l (goalsBy l w) k j ≡ bits (w k j) b (filled (l .fields k) j) * 2 ^ b
-    words-again k j b t = word-again (l .goals) (l .fields k) (kind k) (w k) (valueAt k (goalsBy l w)) (value-made k) j b t
+    pub words-again : (k : Value) (j b : ℕ) → T (gapless (l .fields k) j b) → wordBy l (goalsBy l w) k j ≡ bits (w k j) b (filled (l .fields k) j) * 2 ^ b
+    words-again k j b t = word-again (l .goals) (l .fields k) (passed k) (w k) (valueAt k (goalsBy l w)) (value-made k) j b t

@@ -11,7 +11,7 @@ use Rattle.tile.specs.declared.found.Found.{Found}
 use Rattle.words.specs.declared.packed.Words.{Words}
 use Rattle.words.specs.declared.packed.Packed.{Packed}
 use Rattle.words.specs.Field.{back, made, filled}
-use Rattle.words.specs.Layout.{Kind, Number, Necessary, Unnecessary, tenGoals, sevenWords}
+use Rattle.words.specs.Layout.{Value, Number, Necessary, Unnecessary, tenGoals, sevenWords}
 use Rattle.words.specs.Packing.{wordBy, firstOf}
 use Rattle.words.specs.Promise.{three, seven, wordAt, wordsOf, PackedFrom, packs, refuses, goalsOf, cleared}
 use Rattle.words.proofs.Round.{goals-alike, goals-again, words-fit, words-again}
@@ -30,8 +30,8 @@ unpacked-once w r s d e = d ∙ sym e
 
 -- ---- packed, then unpacked: it comes back
 
--- how many words each kind has
-abbrev many : Kind → ℕ
+-- how many words each value has
+abbrev many : Value → ℕ
 many Number = 1
 many Necessary = 3
 many Unnecessary = 3
@@ -42,7 +42,7 @@ three-at w (suc zero) u = refl
 three-at w (suc (suc zero)) u = refl
 three-at w (suc (suc (suc j))) u = absurd (omega arith)
 
-seven-at : (w : Kind → ℕ → ℕ) (k : Kind) (j : ℕ) → j < many k → wordAt (seven w) k j ≡ w k j
+seven-at : (w : Value → ℕ → ℕ) (k : Value) (j : ℕ) → j < many k → wordAt (seven w) k j ≡ w k j
 seven-at w Number j u = let e : 0 ≡ j = omega arith in ap (w Number) e
 seven-at w Necessary j u = three-at (w Necessary) j u
 seven-at w Unnecessary j u = three-at (w Unnecessary) j u
@@ -56,7 +56,7 @@ pack-unpack g r ten (refuses n e) z = absurd (omega (arith, z, ap (λ (p : Packe
 
 -- ---- unpacked, then packed: never refused, and the unused bits are cleared
 
-rest : (w : Words) (k : Kind) (j : ℕ) → T (gapless (tenGoals k) j 0) → wordBy sevenWords (goalsOf w) k j ≡ wordAt w k j % 2 ^ filled (tenGoals k) j
+rest : (w : Words) (k : Value) (j : ℕ) → T (gapless (tenGoals k) j 0) → wordBy sevenWords (goalsOf w) k j ≡ wordAt w k j % 2 ^ filled (tenGoals k) j
 rest w k j t = words-again sevenWords tt (wordAt w) k j 0 t ∙ rw (mul-one, div-one (wordAt w k j))
 
 kept : (w : Words) → wordsOf (goalsOf w) ≡ cleared w

@@ -1,6 +1,6 @@
--- Fields: which bits of one number stand at which bits of another. A list of fields is a layout (01 "Packed words").
+-- Fields: which bits of one number stand at which bits of another (01 "Packed words").
 -- Assumes nothing.
-use mathlib.Core.Bool.{Bool, true, false, cond}
+use mathlib.Core.Bool.{cond}
 use mathlib.Core.List.{List, [], _∷_}
 use Prim.Native.Nat.{ℕ, _+_, _*_, _/_, _%_, _^_}
 use lib.Dec.{eqb}

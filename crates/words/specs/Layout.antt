@@ -4,16 +4,16 @@ use mathlib.Core.List.{List, [], _∷_}
 use Prim.Native.Nat.{ℕ}
 use Rattle.words.specs.Field.{Field}
 
--- a goal has three values, and each kind of value has words of its own
-pub data Kind : Type 0 where
-  Number : Kind
-  Necessary : Kind
-  Unnecessary : Kind
+-- which of a goal's three values: each has words of its own
+pub data Value : Type 0 where
+  Number : Value
+  Necessary : Value
+  Unnecessary : Value
 
--- how many goals there are, and the fields of each kind
+-- how many goals there are, and the fields of each value
 pub record Layout : Type 0 where
   pub goals : ℕ
-  pub fields : Kind → List Field
+  pub fields : Value → List Field
 
 -- the whole value of a goal: which goal, which word, its shift there, its width
 abbrev pub whole : ℕ → ℕ → ℕ → ℕ → Field
@@ -25,7 +25,7 @@ part g b w s n = record { from = g; low = b; to = w; shift = s; width = n }
 
 -- One word of numbers and three of each set. Goal 0 has no field for its number and none for its necessary set: they are not stored and read 0.
 -- The unnecessary set of goal 3 stands in two words: its low four bits in word 1, the five above them in word 0.
-abbrev pub tenGoals : Kind → List Field
+abbrev pub tenGoals : Value → List Field
 tenGoals Number =
     whole 1 0 0 2 ∷ whole 2 0 2 3 ∷ whole 3 0 5 4 ∷ whole 4 0 9 4
     ∷ whole 5 0 13 2 ∷ whole 6 0 15 3 ∷ whole 7 0 18 4 ∷ whole 8 0 22 4 ∷ whole 9 0 26 4

@@ -7,18 +7,18 @@ use lib.ListN.{getD}
 use Rattle.tile.specs.declared.found.Found.{Found}
 use Rattle.words.specs.declared.packed.Words.{Words}
 use Rattle.words.specs.declared.packed.Packed.{Packed}
-use Rattle.words.specs.Layout.{Kind, Number, Necessary, Unnecessary, sevenWords}
+use Rattle.words.specs.Layout.{Value, Number, Necessary, Unnecessary, sevenWords}
 use Rattle.words.specs.Packing.{Fits, wordBy, goalsBy}
 
 abbrev pub three : (ℕ → ℕ) → List ℕ
 three w = w 0 ∷ w 1 ∷ w 2 ∷ []
 
 -- seven words: one of numbers, three of each set
-abbrev pub seven : (Kind → ℕ → ℕ) → Words
+abbrev pub seven : (Value → ℕ → ℕ) → Words
 seven w = record { number = w Number 0; necessary = three (w Necessary); unnecessary = three (w Unnecessary) }
 
--- word j of each kind among them
-abbrev pub wordAt : Words → Kind → ℕ → ℕ
+-- word j of each value among them
+abbrev pub wordAt : Words → Value → ℕ → ℕ
 wordAt w Number j = w .number
 wordAt w Necessary j = getD (w .necessary) j 0
 wordAt w Unnecessary j = getD (w .unnecessary) j 0
@@ -29,7 +29,7 @@ wordsOf g = seven (wordBy sevenWords g)
 
 pub data PackedFrom (g : List Found) (r : Packed) : Type 0 where
   packs : Fits sevenWords g → r ≡ record { code = 0; words = wordsOf g } → PackedFrom g r
-  refuses : (Fits sevenWords g → ⊥) → r ≡ record { code = 9; words = seven (λ k j. 0) } → PackedFrom g r
+  refuses : (Fits sevenWords g → ⊥) → r ≡ record { code = 9; words = seven (λ v j. 0) } → PackedFrom g r
 
 -- what unpacking gives
 abbrev pub goalsOf : Words → List Found

@@ -1,4 +1,4 @@
-// Fields read from a word.
+// Fields: bits taken from a word, and bits put into one.
 ghost use mathlib.Core.Path.{_≡_};
 ghost use Prim.Native.Nat.{_+_, _*_, _^_, _<_, _≤_};
 ghost use Rattle.words.specs.Field.{bits};
@@ -12,7 +12,7 @@ pub(crate) fn part(word: u32, low: u32, width: u32, shift: u32) -> u32
     ((word >> low) & ((1 << width) - 1)) << shift
 }
 
-// A number, which has fewer than eight bits.
+// A number read from a word; it has fewer than eight bits.
 pub(crate) fn number(word: u32, low: u32, width: u32) -> u8
     requires { ⌜ (low < 32) × (width < 8) ⌝ }
     ensures { λ r. ⌜ r ≡ alone word low width ⌝ }
@@ -20,7 +20,7 @@ pub(crate) fn number(word: u32, low: u32, width: u32) -> u8
     part(word, low, width, 0) as u8
 }
 
-// A set of nine kinds.
+// A set of nine kinds read from a word.
 pub(crate) fn set(word: u32, low: u32) -> u16
     requires { ⌜ low < 32 ⌝ }
     ensures { λ r. ⌜ r ≡ alone word low 9 ⌝ }
@@ -28,7 +28,7 @@ pub(crate) fn set(word: u32, low: u32) -> u16
     part(word, low, 9, 0) as u16
 }
 
-// A set of which four bits stand at the foot of one word and five at the head of another.
+// A set read from two words: its low four bits stand at the foot of one, the five above them at the head of the other.
 pub(crate) fn split_set(foot: u32, head: u32) -> u16
     ensures { λ r. ⌜ r ≡ split foot head ⌝ }
 {

@@ -81,7 +81,7 @@ impl Suits {
         let theirs = unpack(&words);
         let ours = goals(&self.judge, counts);
         for goal in 0..10 {
-            let same = at(&ours, goal) == at(&theirs, goal);
+            let same = ours.at(goal) == theirs.at(goal);
             let input = || format!("{counts:?} goal ({},{})", goal / 5, goal % 5);
             self.answers.check(same, input);
         }
@@ -97,25 +97,9 @@ impl Suits {
 
 /// What the judge says of the ten goals.
 fn goals(judge: &Judge, counts: &[u8]) -> Goals {
-    let mut goals = Goals {
-        numbers: [0; 10],
-        necessary: [0; 10],
-        unnecessary: [0; 10],
-    };
-    for goal in 0..10 {
+    Goals::new(|goal| {
         let verdict = judge.verdict(counts, goal / 5, goal % 5);
-        goals.numbers[goal] = verdict.number;
-        goals.necessary[goal] = verdict.necessary as u16;
-        goals.unnecessary[goal] = verdict.unnecessary as u16;
-    }
-    goals
-}
-
-fn at(goals: &Goals, goal: usize) -> (u32, u16, u16) {
-    let Goals {
-        numbers,
-        necessary,
-        unnecessary,
-    } = goals;
-    (numbers[goal], necessary[goal], unnecessary[goal])
+        let sets = [verdict.necessary, verdict.unnecessary].map(|set| set as u16);
+        (verdict.number, sets[0], sets[1])
+    })
 }

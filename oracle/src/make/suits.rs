@@ -2,36 +2,29 @@
 
 mod cases;
 mod ends;
-mod extremes;
+pub(super) mod extremes;
 mod faults;
 mod fill;
 mod refused;
 pub mod sorts;
 
-use std::collections::HashSet;
-
+use super::once;
 use crate::random::Random;
 use crate::suit::question::Question;
 use crate::suit::{GOALS, Suit};
 
 /// The suits that are drawn at random; of 1m/9m there are only 25, and all are asked.
-const DRAWN: [Suit; 2] = [Suit::Ranks, Suit::Honours];
+pub(super) const DRAWN: [Suit; 2] = [Suit::Ranks, Suit::Honours];
 
 /// All of 1m/9m, suits that lie far out, `count` random suits each of nine ranks and of
 /// honours, then what is refused, which needs no seed.
 pub fn suits(seed: u64, count: usize) -> Vec<Question> {
     let mut questions = ends::ends();
-    questions.extend(once(DRAWN.into_iter().flat_map(extremes::extremes)));
+    let far_out = DRAWN.into_iter().flat_map(extremes::extremes);
+    questions.extend(once(far_out, Question::record));
     questions.extend(random(seed, count));
-    questions.extend(once(cases::questions()));
+    questions.extend(once(cases::questions(), Question::record));
     questions
-}
-
-/// What is made by several rules is asked once.
-fn once(questions: impl IntoIterator<Item = Question>) -> Vec<Question> {
-    let mut seen = HashSet::new();
-    let new = |question: &Question| seen.insert(question.record());
-    questions.into_iter().filter(new).collect()
 }
 
 /// First each for all goals at once, then one in ten goal by goal.

@@ -22,11 +22,16 @@ const SHAPES: [&[u8]; 11] = [
 
 /// The empty suit both ways, the others for all goals at once.
 pub fn extremes(suit: Suit) -> Vec<Question> {
-    let length = suit.length();
-    let mut questions = both_ways(suit, &vec![0; length]);
-    let far_out = [alone(length), shapes(length), full(length), gates(length)].concat();
-    questions.extend(far_out.iter().map(|counts| Question::all(suit, counts)));
+    let mut questions = both_ways(suit, &vec![0; suit.length()]);
+    let all = |counts: &Vec<u8>| Question::all(suit, counts);
+    questions.extend(far_out(suit).iter().map(all));
     questions
+}
+
+/// The counts of all but the empty suit.
+pub fn far_out(suit: Suit) -> Vec<Vec<u8>> {
+    let length = suit.length();
+    [alone(length), shapes(length), full(length), gates(length)].concat()
 }
 
 /// Each kind one to four times and nothing else.

@@ -1,11 +1,8 @@
 -- `pack` meets its contract: the test says whether all values fit, and the words are the layout's. Assumes nothing.
-use mathlib.Core.Path.{_≡_, refl, sym, ap, _∙_, subst}
-use Prim.Native.Nat.{ℕ}
+use mathlib.Core.Path.{_≡_, refl, sym, _∙_, subst}
 use lib.Dec.{T}
 use lib.ListN.{length}
 use borrow.Author.Needs.{needs}
-use Rattle.words.specs.declared.packed.Words.{Words}
-use Rattle.words.specs.declared.packed.Packed.{Packed}
 use Rattle.words.specs.Layout.{sevenWords}
 use Rattle.words.specs.Limit.{most}
 use Rattle.words.specs.Promise.{packs, refuses}

@@ -1,3 +1,4 @@
+-- `words_of` meets its contract: each word is the layout's. Assumes nothing.
 use borrow.Author.Needs.{needs}
 use Rattle.words.proofs.pack.words_of.Statement.{statement}
 use Rattle.words.proofs.pack.words_of.Tie as tie

@@ -1,3 +1,4 @@
+-- `unnecessary_sets` meets its contract: each value is its field, and goal 3 its two. Assumes nothing.
 use mathlib.Core.List.{[], _∷_}
 use borrow.Author.Needs.{needs}
 use Rattle.words.proofs.unpack.unnecessary_sets.Statement.{statement}

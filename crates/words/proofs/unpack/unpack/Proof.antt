@@ -1,3 +1,4 @@
+-- `unpack` meets its contract: each goal has the values that were read for it. Assumes nothing.
 use mathlib.Core.Path.{_∙_}
 use borrow.Author.Needs.{needs}
 use Rattle.words.specs.Part.{goalsFrom}

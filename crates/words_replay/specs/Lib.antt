@@ -1,0 +1,3 @@
+pub mod Question
+pub mod Answer
+pub mod Reply
