@@ -76,6 +76,7 @@ pub answers-fit : (s : Suit) (h : List ℕ) (r : List Found) → AllRight (board
 answers-fit s h r a = within-fits most sevenWords tt r (a .ten) (λ i u. record { each = λ k. fits (suitable s) k i u (a .each i u) })
 
 -- what is answered is packed, never refused
-pub answers-packed : (s : Suit) (h : List ℕ) (r : List Found) (p : Packed) → AllRight (boardOf s) h r → PackedFrom r p → p ≡ record { code = 0; words = wordsOf r }
+pub answers-packed : (s : Suit) (h : List ℕ) (r : List Found) (p : Packed) → AllRight (boardOf s) h r → PackedFrom r p
+    → p ≡ record { code = 0; words = wordsOf r }
 answers-packed s h r p a (packs f e) = e
 answers-packed s h r p a (refuses n e) = absurd (n (answers-fit s h r a))

@@ -28,7 +28,9 @@ for-values test t Necessary = and-first (test Necessary) (test Unnecessary) (and
 for-values test t Unnecessary = and-second (test Necessary) (test Unnecessary) (and-second (test Number) (test Necessary && test Unnecessary) t)
 
 values-for : (test : Value → Bool) → ((k : Value) → T (test k)) → T (forValues test)
-values-for test h = and-both (test Number) (test Necessary && test Unnecessary) (h Number) (and-both (test Necessary) (test Unnecessary) (h Necessary) (h Unnecessary))
+values-for test h =
+    and-both (test Number) (test Necessary && test Unnecessary) (h Number)
+    (and-both (test Necessary) (test Unnecessary) (h Necessary) (h Unnecessary))
 
 -- ---- limits
 
@@ -46,9 +48,13 @@ past : (k : Value) (g : List Found) (i : ℕ) → length g ≤ i → valueAt k g
 past k g i l = ap (valueOf k) (List·getD-eq-default g blank l) ∙ blank-value k
 
 -- values fit if they do at each goal
-pub fits-each : (l : Layout) (g : List Found) → length g ≡ l .goals → ((k : Value) (i : ℕ) → i < l .goals → valueAt k g i < 2 ^ filled (map back (l .fields k)) i) → Fits l g
-fits-each l g e h =
-    record { each = λ k i. ⊎-elim (λ p. omega (arith, past k g i (omega arith), pow-pos (filled (map back (l .fields k)) i))) (λ u. h k i u) (at-most-or-over (l .goals) i) }
+pub fits-each : (l : Layout) (g : List Found) → length g ≡ l .goals
+    → ((k : Value) (i : ℕ) → i < l .goals → valueAt k g i < 2 ^ filled (map back (l .fields k)) i) → Fits l g
+fits-each l g e h = record { each = each }
+  where
+    each : (k : Value) (i : ℕ) → valueAt k g i < 2 ^ filled (map back (l .fields k)) i
+    each k i =
+        ⊎-elim (λ p. omega (arith, past k g i (omega arith), pow-pos (filled (map back (l .fields k)) i))) (λ u. h k i u) (at-most-or-over (l .goals) i)
 
 -- the limits are what the fields of the layout hold
 abbrev limit : (Value → ℕ → ℕ) → Layout → Value → ℕ → Bool

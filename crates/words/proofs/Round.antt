@@ -55,11 +55,15 @@ module _ (n : ℕ) (fs : List Field) (t : T (good n fs)) where
   run : (i : ℕ) → i < n → T (gapless (map back fs) i 0)
   run = all-to n (λ i. gapless (map back fs) i 0) (and-second (below n fs) whole (and-first (below n fs && whole) clear t))
 
-  value-again : (x : ℕ → ℕ) (i : ℕ) → i < n → x i < 2 ^ filled (map back fs) i → made (map back fs) (made fs x) i ≡ x i
-  value-again x i u l = given-back fs (and-first (tidy fs) (tidy (map back fs)) (and-second (below n fs && whole) clear t)) x i (run i u) l
+  apart : T clear
+  apart = and-second (below n fs && whole) clear t
 
-  word-again : (w x : ℕ → ℕ) → ((i : ℕ) → i < n → x i ≡ made (map back fs) w i) → (j b : ℕ) → T (gapless fs j b) → made fs x j ≡ bits (w j) b (filled fs j) * 2 ^ b
-  word-again w x h j b g = alike n fs inside x (made (map back fs) w) h j ∙ cleared-run fs (and-second (tidy fs) (tidy (map back fs)) (and-second (below n fs && whole) clear t)) w j b g
+  value-again : (x : ℕ → ℕ) (i : ℕ) → i < n → x i < 2 ^ filled (map back fs) i → made (map back fs) (made fs x) i ≡ x i
+  value-again x i u l = given-back fs (and-first (tidy fs) (tidy (map back fs)) apart) x i (run i u) l
+
+  word-again : (w x : ℕ → ℕ) → ((i : ℕ) → i < n → x i ≡ made (map back fs) w i) → (j b : ℕ) → T (gapless fs j b)
+      → made fs x j ≡ bits (w j) b (filled fs j) * 2 ^ b
+  word-again w x h j b g = alike n fs inside x (made (map back fs) w) h j ∙ cleared-run fs (and-second (tidy fs) (tidy (map back fs)) apart) w j b g
 
 -- ---- goals
 
@@ -87,10 +91,13 @@ value-by l w i Unnecessary = refl
 -- words that are the same as far as the fields go make the same goals
 pub goals-alike : (l : Layout) (n : Value → ℕ) → T (forValues (λ k. below (n k) (map back (l .fields k)))) → (v w : Value → ℕ → ℕ)
     → ((k : Value) (j : ℕ) → j < n k → v k j ≡ w k j) → goalsBy l v ≡ goalsBy l w
-goals-alike l n t v w h =
-    first-alike (l .goals) (goalBy l v) (goalBy l w)
-    (λ i. same (goalBy l v i) (goalBy l w i)
-    (λ k. value-by l v i k ∙ alike (n k) (map back (l .fields k)) (for-values (λ k. below (n k) (map back (l .fields k))) t k) (v k) (w k) (h k) i ∙ sym (value-by l w i k)))
+goals-alike l n t v w h = first-alike (l .goals) (goalBy l v) (goalBy l w) (λ i. same (goalBy l v i) (goalBy l w i) (each i))
+  where
+    inside : (k : Value) → T (below (n k) (map back (l .fields k)))
+    inside = for-values (λ k. below (n k) (map back (l .fields k))) t
+
+    each : (i : ℕ) (k : Value) → valueOf k (goalBy l v i) ≡ valueOf k (goalBy l w i)
+    each i k = value-by l v i k ∙ alike (n k) (map back (l .fields k)) (inside k) (v k) (w k) (h k) i ∙ sym (value-by l w i k)
 
 module _ (l : Layout) (s : T (sound l)) where
   passed : (k : Value) → T (good (l .goals) (l .fields k))
@@ -98,11 +105,16 @@ module _ (l : Layout) (s : T (sound l)) where
 
   -- goals that fit come back
   pub goals-again : (g : List Found) → length g ≡ l .goals → Fits l g → goalsBy l (wordBy l g) ≡ g
-  goals-again g e f =
-      ext-getD blank (goalsBy l (wordBy l g)) g (length-first (l .goals) (goalBy l (wordBy l g)) ∙ sym e)
-      (λ i u. let v : i < l .goals = omega (arith, length-first (l .goals) (goalBy l (wordBy l g))) in
-      first-at (l .goals) (goalBy l (wordBy l g)) i v
-      ∙ same (goalBy l (wordBy l g) i) (getD g i blank) (λ k. value-by l (wordBy l g) i k ∙ value-again (l .goals) (l .fields k) (passed k) (valueAt k g) i v (f .each k i)))
+  goals-again g e f = ext-getD blank (goalsBy l (wordBy l g)) g (long ∙ sym e) (λ i u. each i (omega (arith, long)))
+    where
+      long : length (goalsBy l (wordBy l g)) ≡ l .goals
+      long = length-first (l .goals) (goalBy l (wordBy l g))
+
+      value : (i : ℕ) → i < l .goals → (k : Value) → valueOf k (goalBy l (wordBy l g) i) ≡ valueAt k g i
+      value i u k = value-by l (wordBy l g) i k ∙ value-again (l .goals) (l .fields k) (passed k) (valueAt k g) i u (f .each k i)
+
+      each : (i : ℕ) → i < l .goals → getD (goalsBy l (wordBy l g)) i blank ≡ getD g i blank
+      each i u = first-at (l .goals) (goalBy l (wordBy l g)) i u ∙ same (goalBy l (wordBy l g) i) (getD g i blank) (value i u)
 
   module _ (w : Value → ℕ → ℕ) where
     value-made : (k : Value) (i : ℕ) → i < l .goals → valueAt k (goalsBy l w) i ≡ made (map back (l .fields k)) (w k) i

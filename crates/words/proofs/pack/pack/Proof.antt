@@ -14,7 +14,8 @@ returns : tie.Need-returns
 returns c =
     let b = c .before .before in
     let ten : length (b .before .args .goals) ≡ 10 = search needs in
-    packs (test-fits most sevenWords tt (b .before .args .goals) ten (subst T (sym (c .before .if1 .taken) ∙ b .all-fit .ensures) tt)) (λ i. record { code = 0; words = c .words-of .ensures i })
+    let passed = subst T (sym (c .before .if1 .taken) ∙ b .all-fit .ensures) tt in
+    packs (test-fits most sevenWords tt (b .before .args .goals) ten passed) (λ i. record { code = 0; words = c .words-of .ensures i })
 
 returns-2 : tie.Need-returns-2
 returns-2 c = refuses (λ f. subst T (sym (c .before .all-fit .ensures) ∙ c .if1 .left) (fits-test most sevenWords tt (c .before .before .args .goals) f)) refl

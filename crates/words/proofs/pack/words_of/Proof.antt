@@ -4,7 +4,11 @@ use Rattle.words.proofs.pack.words_of.Statement.{statement}
 use Rattle.words.proofs.pack.words_of.Tie as tie
 
 returns : tie.Need-returns
-returns c = λ i. record { number = c .before .before .number-word .ensures i; necessary = c .before .necessary-words .ensures i; unnecessary = c .unnecessary-words .ensures i }
+returns c =
+    let n = c .before .before .number-word .ensures in
+    let a = c .before .necessary-words .ensures in
+    let b = c .unnecessary-words .ensures in
+    λ i. record { number = n i; necessary = a i; unnecessary = b i }
 
 pub words-of-spec : {M : Type 1} → statement M
 words-of-spec =

@@ -26,7 +26,8 @@ loop-again c =
     let l = c .before .loop in (
       omega arith,
       simp length-set (l .inv .1),
-      below-more _ (l .goal) (λ i p. getD-set-other (l .goals) (l .goal) i _ _ (λ e. omega arith) ∙ l .inv .2 i p) (getD-set-same (l .goals) (l .goal) _ _ (omega arith)),
+      below-more _ (l .goal) (λ i p. getD-set-other (l .goals) (l .goal) i _ _ (λ e. omega arith) ∙ l .inv .2 i p)
+          (getD-set-same (l .goals) (l .goal) _ _ (omega arith)),
     )
 
 returns : tie.Need-returns Inv-loop μ-loop

@@ -6,7 +6,11 @@ use Rattle.words.proofs.unpack.unpack.Statement.{statement}
 use Rattle.words.proofs.unpack.unpack.Tie as tie
 
 returns : tie.Need-returns
-returns c = c .ten-goals .ensures ∙ (λ i. goalsFrom (c .before .before .before .numbers .ensures i) (c .before .before .necessary-sets .ensures i) (c .before .unnecessary-sets .ensures i))
+returns c =
+    let n = c .before .before .before .numbers .ensures in
+    let a = c .before .before .necessary-sets .ensures in
+    let b = c .before .unnecessary-sets .ensures in
+    c .ten-goals .ensures ∙ (λ i. goalsFrom (n i) (a i) (b i))
 
 pub unpack-spec : {M : Type 1} → statement M
 unpack-spec =
