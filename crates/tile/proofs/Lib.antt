@@ -1,5 +1,6 @@
 -- Laws, from the small to the large; what a reader of the definitions may want to know stands last.
 pub mod Tests
+pub mod Filling
 pub mod Counts
 pub mod Sets
 pub mod Append

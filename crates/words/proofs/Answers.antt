@@ -25,16 +25,18 @@ use Rattle.walk.proofs.Right.{ranks-some, honours-some, ends-some}
 use Rattle.words.specs.declared.packed.Packed.{Packed}
 use Rattle.words.specs.Layout.{Value, Number, Necessary, Unnecessary, sevenWords}
 use Rattle.words.specs.Limit.{most}
-use Rattle.words.specs.Packing.{valueOf, Fits}
-use Rattle.words.specs.Promise.{wordsOf, PackedFrom, packs, refuses}
+use Rattle.words.specs.Packing.{valueOf, Fits, wordBy}
+use Rattle.words.specs.Promise.{seven, PackedFrom}
 use Rattle.words.proofs.Fitting.{within-fits}
+use Rattle.words.proofs.Held.{packed}
+use Rattle.words.proofs.Seven.{holder}
 
 -- a board of at most nine kinds on which every goal of at most two pairs and melds has a target
-pub record Suitable (b : Board) : Type 0 where
-  pub nine : b .kinds ≤ 9
-  pub some : (p m : ℕ) → p ≤ 1 → p + m ≤ 2 → (t : List ℕ) × Target b p m t
+record Suitable (b : Board) : Type 0 where
+  nine : b .kinds ≤ 9
+  some : (p m : ℕ) → p ≤ 1 → p + m ≤ 2 → (t : List ℕ) × Target b p m t
 
-pub suitable : (s : Suit) → Suitable (boardOf s)
+suitable : (s : Suit) → Suitable (boardOf s)
 suitable Ranks = record { nine = omega arith; some = λ p m one two. ranks-some p m one (omega arith) }
 suitable Honours = record { nine = omega arith; some = λ p m one two. honours-some p m one (omega arith) }
 suitable Ends = record { nine = omega arith; some = λ p m one two. ends-some p m one .1 two }
@@ -46,8 +48,8 @@ lack-room : (i : ℕ) → i < 10 → 3 * (i % 5) + 2 * (i / 5) ≤ most Number i
 lack-room i u = leb→le _ _ (all-to 10 (λ i. leb (3 * (i % 5) + 2 * (i / 5)) (most Number i)) tt i u)
 
 -- where a test passes, the limit is at least n: computed once for the ten goals
-where-tested : (test : ℕ → Bool) (n : ℕ) (k : Value) → T (allTo 10 (λ i. not (test i) || leb n (most k i))) → (i : ℕ) → i < 10 → T (test i) → n ≤ most k i
-where-tested test n k t i u h = leb→le _ _ (implied (test i) (leb n (most k i)) (all-to 10 (λ i. not (test i) || leb n (most k i)) t i u) h)
+where-tested : (test : ℕ → Bool) (n : ℕ) (v : Value) → T (allTo 10 (λ i. not (test i) || leb n (most v i))) → (i : ℕ) → i < 10 → T (test i) → n ≤ most v i
+where-tested test n v t i u h = leb→le _ _ (implied (test i) (leb n (most v i)) (all-to 10 (λ i. not (test i) || leb n (most v i)) t i u) h)
 
 -- for 14, where there may be no target
 bound-room : (i : ℕ) → i < 10 → 2 < i / 5 + i % 5 → mostTiles ≤ most Number i
@@ -63,7 +65,7 @@ module _ {b : Board} (s : Suitable b) where
   small : {x : ℕ} → x < 2 ^ b .kinds → x ≤ 0x1FF
   small l = omega (arith, lt-of-lt-of-le l (pow-mono (s .nine)))
 
-  fits : {h : List ℕ} {r : Found} (k : Value) (i : ℕ) → i < 10 → Right b mostTiles (i / 5) (i % 5) h r → valueOf k r ≤ most k i
+  fits : {h : List ℕ} {r : Found} (v : Value) (i : ℕ) → i < 10 → Right b mostTiles (i / 5) (i % 5) h r → valueOf v r ≤ most v i
   fits Number i u (answer a) = omega (arith, number-at-most (a .number), lack-room i u)
   fits Number i u (no-target none e) =
       ⊎-elim (λ two. let (t, tg) = s .some (i / 5) (i % 5) (omega arith) two in absurd (none t tg))
@@ -73,10 +75,9 @@ module _ {b : Board} (s : Suitable b) where
   fits Unnecessary i u w = small (right-small w .1)
 
 pub answers-fit : (s : Suit) (h : List ℕ) (r : List Found) → AllRight (boardOf s) h r → Fits sevenWords r
-answers-fit s h r a = within-fits most sevenWords tt r (a .ten) (λ i u. record { each = λ k. fits (suitable s) k i u (a .each i u) })
+answers-fit s h r a = within-fits most sevenWords tt r (a .ten) (λ i u. record { each = λ v. fits (suitable s) v i u (a .each i u) })
 
 -- what is answered is packed, never refused
 pub answers-packed : (s : Suit) (h : List ℕ) (r : List Found) (p : Packed) → AllRight (boardOf s) h r → PackedFrom r p
-    → p ≡ record { code = 0; words = wordsOf r }
-answers-packed s h r p a (packs f e) = e
-answers-packed s h r p a (refuses n e) = absurd (n (answers-fit s h r a))
+    → p ≡ record { code = 0; words = seven (wordBy sevenWords r) }
+answers-packed s h r p a q = let (c, w) = packed sevenWords holder (answers-fit s h r a) q in λ i. record { code = c i; words = w i }

@@ -22,12 +22,12 @@ use Rattle.words.specs.Limit.{fitTo}
 abbrev pub forValues : (Value → Bool) → Bool
 forValues test = test Number && (test Necessary && test Unnecessary)
 
-pub for-values : (test : Value → Bool) → T (forValues test) → (k : Value) → T (test k)
+pub for-values : (test : Value → Bool) → T (forValues test) → (v : Value) → T (test v)
 for-values test t Number = and-first (test Number) (test Necessary && test Unnecessary) t
 for-values test t Necessary = and-first (test Necessary) (test Unnecessary) (and-second (test Number) (test Necessary && test Unnecessary) t)
 for-values test t Unnecessary = and-second (test Necessary) (test Unnecessary) (and-second (test Number) (test Necessary && test Unnecessary) t)
 
-values-for : (test : Value → Bool) → ((k : Value) → T (test k)) → T (forValues test)
+values-for : (test : Value → Bool) → ((v : Value) → T (test v)) → T (forValues test)
 values-for test h =
     and-both (test Number) (test Necessary && test Unnecessary) (h Number)
     (and-both (test Necessary) (test Unnecessary) (h Necessary) (h Unnecessary))
@@ -36,49 +36,49 @@ values-for test h =
 
 -- the values of goal i are within its limits
 pub record Within (m : Value → ℕ → ℕ) (g : List Found) (i : ℕ) : Type 0 where
-  pub each : (k : Value) → valueAt k g i ≤ m k i
+  pub each : (v : Value) → valueAt v g i ≤ m v i
 
 -- past the last goal there is nothing
-blank-value : (k : Value) → valueOf k blank ≡ 0
+blank-value : (v : Value) → valueOf v blank ≡ 0
 blank-value Number = refl
 blank-value Necessary = refl
 blank-value Unnecessary = refl
 
-past : (k : Value) (g : List Found) (i : ℕ) → length g ≤ i → valueAt k g i ≡ 0
-past k g i l = ap (valueOf k) (List·getD-eq-default g blank l) ∙ blank-value k
+past : (v : Value) (g : List Found) (i : ℕ) → length g ≤ i → valueAt v g i ≡ 0
+past v g i l = ap (valueOf v) (List·getD-eq-default g blank l) ∙ blank-value v
 
 -- values fit if they do at each goal
 pub fits-each : (l : Layout) (g : List Found) → length g ≡ l .goals
-    → ((k : Value) (i : ℕ) → i < l .goals → valueAt k g i < 2 ^ filled (map back (l .fields k)) i) → Fits l g
+    → ((v : Value) (i : ℕ) → i < l .goals → valueAt v g i < 2 ^ filled (map back (l .fields v)) i) → Fits l g
 fits-each l g e h = record { each = each }
   where
-    each : (k : Value) (i : ℕ) → valueAt k g i < 2 ^ filled (map back (l .fields k)) i
-    each k i =
-        ⊎-elim (λ p. omega (arith, past k g i (omega arith), pow-pos (filled (map back (l .fields k)) i))) (λ u. h k i u) (at-most-or-over (l .goals) i)
+    each : (v : Value) (i : ℕ) → valueAt v g i < 2 ^ filled (map back (l .fields v)) i
+    each v i =
+        ⊎-elim (λ p. omega (arith, past v g i (omega arith), pow-pos (filled (map back (l .fields v)) i))) (λ u. h v i u) (at-most-or-over (l .goals) i)
 
 -- the limits are what the fields of the layout hold
 abbrev limit : (Value → ℕ → ℕ) → Layout → Value → ℕ → Bool
-limit m l k i = eqb (suc (m k i)) (2 ^ filled (map back (l .fields k)) i)
+limit m l v i = eqb (suc (m v i)) (2 ^ filled (map back (l .fields v)) i)
 
 abbrev pub meets : (Value → ℕ → ℕ) → Layout → Bool
-meets m l = forValues (λ k. allTo (l .goals) (limit m l k))
+meets m l = forValues (λ v. allTo (l .goals) (limit m l v))
 
 module _ (m : Value → ℕ → ℕ) (l : Layout) (t : T (meets m l)) (g : List Found) where
-  holds : (k : Value) (i : ℕ) → i < l .goals → suc (m k i) ≡ 2 ^ filled (map back (l .fields k)) i
-  holds k i u = eqb→eq _ _ (all-to (l .goals) (limit m l k) (for-values (λ k. allTo (l .goals) (limit m l k)) t k) i u)
+  holds : (v : Value) (i : ℕ) → i < l .goals → suc (m v i) ≡ 2 ^ filled (map back (l .fields v)) i
+  holds v i u = eqb→eq _ _ (all-to (l .goals) (limit m l v) (for-values (λ v. allTo (l .goals) (limit m l v)) t v) i u)
 
   pub within-fits : length g ≡ l .goals → ((i : ℕ) → i < l .goals → Within m g i) → Fits l g
-  within-fits e w = fits-each l g e (λ k i u. omega (arith, holds k i u, w i u .each k))
+  within-fits e w = fits-each l g e (λ v i u. omega (arith, holds v i u, w i u .each v))
 
   pub fits-within : Fits l g → (i : ℕ) → i < l .goals → Within m g i
-  fits-within f i u = record { each = λ k. omega (arith, holds k i u, f .each k i) }
+  fits-within f i u = record { each = λ v. omega (arith, holds v i u, f .each v i) }
 
 -- ---- the test of the code
 
 module _ (m : Value → ℕ → ℕ) (g : List Found) where
   -- the test of goal i
   abbrev tested : ℕ → Value → Bool
-  tested i k = leb (valueAt k g i) (m k i)
+  tested i v = leb (valueAt v g i) (m v i)
 
   told : (n : ℕ) → T (fitTo m n g) → (i : ℕ) → i < n → Within m g i
   told zero t i u = absurd (omega arith)
@@ -86,12 +86,13 @@ module _ (m : Value → ℕ → ℕ) (g : List Found) where
       ⊎-elim (λ p. let e : n ≡ i = omega arith in rw (← e) here) (λ u. told n (and-second (forValues (tested n)) (fitTo m n g) t) i u) (at-most-or-over n i)
     where
       here : Within m g n
-      here = record { each = λ k. leb→le _ _ (for-values (tested n) (and-first (forValues (tested n)) (fitTo m n g) t) k) }
+      here = record { each = λ v. leb→le _ _ (for-values (tested n) (and-first (forValues (tested n)) (fitTo m n g) t) v) }
 
   tells : (n : ℕ) → ((i : ℕ) → i < n → Within m g i) → T (fitTo m n g)
   tells zero w = tt
   tells (suc n) w =
-      and-both (forValues (tested n)) (fitTo m n g) (values-for (tested n) (λ k. le→leb _ _ (w n (omega arith) .each k))) (tells n (λ i u. w i (omega arith)))
+      and-both (forValues (tested n)) (fitTo m n g) (values-for (tested n) (λ v. le→leb _ _ (w n (omega arith) .each v)))
+      (tells n (λ i u. w i (omega arith)))
 
 pub test-fits : (m : Value → ℕ → ℕ) (l : Layout) → T (meets m l) → (g : List Found) → length g ≡ l .goals → T (fitTo m (l .goals) g) → Fits l g
 test-fits m l t g e h = within-fits m l t g e (told m g (l .goals) h)

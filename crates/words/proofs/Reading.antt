@@ -12,11 +12,11 @@ use Rattle.tile.proofs.Tests.{and-parts}
 use Rattle.words.specs.Field.{Field, back, bits, made}
 
 -- the fields of number j stand in rising order, none below bit b and none over another
-abbrev pub rising : List Field → ℕ → ℕ → Bool
+abbrev rising : List Field → ℕ → ℕ → Bool
 rising [] j b = true
 rising (f ∷ fs) j b = cond (eqb (f .to) j) (leb b (f .shift) && rising fs j (f .shift + f .width)) (rising fs j b)
 
-abbrev every : (Field → Bool) → List Field → Bool
+abbrev pub every : (Field → Bool) → List Field → Bool
 every test [] = true
 every test (f ∷ fs) = test f && every test fs
 
@@ -25,7 +25,7 @@ abbrev pub tidy : List Field → Bool
 tidy fs = every (λ f. rising fs (f .to) 0) fs
 
 -- a field laid onto its own place
-abbrev pub own : Field → Field
+abbrev own : Field → Field
 own f = record { from = f .to; low = f .shift; to = f .to; shift = f .shift; width = f .width }
 
 -- of number j only the bits that fields hold
@@ -58,8 +58,8 @@ found : (r v q s w : ℕ) → r < 2 ^ s → v < 2 ^ w → bits (r + (v * 2 ^ s +
 found r v q s w h l = rw (above v q s w, add-comm r ((q * 2 ^ w + v) * 2 ^ s), high (q * 2 ^ w + v) s h) (low q w l)
 
 -- r and v together end where the field ends
-pub within : (r v s w : ℕ) → r < 2 ^ s → v < 2 ^ w → r + v * 2 ^ s < 2 ^ (s + w)
-within r v s w h l = rw (add-comm r (v * 2 ^ s), add-comm s w, pow-add 2 w s) (digits-lt l h)
+pub end-at : (r v s w : ℕ) → r < 2 ^ s → v < 2 ^ w → r + v * 2 ^ s < 2 ^ (s + w)
+end-at r v s w h l = rw (add-comm r (v * 2 ^ s), add-comm s w, pow-add 2 w s) (digits-lt l h)
 
 -- a number of bits from s on is one of bits from b on
 lower : (n b s : ℕ) → b ≤ s → n * 2 ^ s ≡ n * 2 ^ (s - b) * 2 ^ b
@@ -97,7 +97,7 @@ module _ (x : ℕ → ℕ) where
       (λ here h e. let (k, u) = and-parts (leb b (f .shift)) _ h in
       let (q, m) = multiple fs j (f .shift + f .width) u in
       let below : r < 2 ^ f .shift = lt-of-lt-of-le l (pow-mono (leb→le b (f .shift) k)) in
-      let end = within r (taken f) (f .shift) (f .width) below (small f) in (
+      let end = end-at r (taken f) (f .shift) (f .width) below (small f) in (
         (λ here. rw (e, m) (found r (taken f) q (f .shift) (f .width) below (small f))),
         finds fs j (f .shift + f .width) (r + taken f * 2 ^ f .shift) n u end (e ∙ sym (add-assoc r _ _)),
       ))

@@ -10,7 +10,7 @@ use lib.Dec.{T, eqb, eqb→eq}
 use lib.Pow.{pow-pos, ones-lt, shr-shr, mod-pow-add}
 use Rattle.tile.proofs.Tests.{and-parts}
 use Rattle.words.specs.Field.{Field, back, bits, made, filled}
-use Rattle.words.proofs.Reading.{tidy, kept, by-choices, again, above, within, taken, small}
+use Rattle.words.proofs.Reading.{tidy, kept, by-choices, again, above, end-at, taken, small}
 
 -- the fields of number j follow each other without a gap, from bit b on
 abbrev pub gapless : List Field → ℕ → ℕ → Bool
@@ -21,7 +21,7 @@ gapless (f ∷ fs) j b = cond (eqb (f .to) j) (eqb (f .shift) b && gapless fs j 
 run : (n b w m : ℕ) → bits n b w * 2 ^ b + bits n (b + w) m * 2 ^ (b + w) ≡ bits n b (w + m) * 2 ^ b
 run n b w m = rw (above (bits n b w) (bits n (b + w) m) b w, add-comm w m, mod-pow-add (n / 2 ^ b) m w, shr-shr n b w)
 
-pub kept-run : (fs : List Field) (x : ℕ → ℕ) (j b : ℕ) → T (gapless fs j b) → kept fs x j ≡ bits (x j) b (filled fs j) * 2 ^ b
+kept-run : (fs : List Field) (x : ℕ → ℕ) (j b : ℕ) → T (gapless fs j b) → kept fs x j ≡ bits (x j) b (filled fs j) * 2 ^ b
 kept-run [] x j b t = rw (mod-one (x j / 2 ^ b), zero-mul (2 ^ b))
 kept-run (f ∷ fs) x j b t =
     by-choices (λ n m. n ≡ bits (x j) b m * 2 ^ b) (eqb (f .to) j) _ _ t
@@ -36,7 +36,7 @@ ends (f ∷ fs) x j b t =
     by-choices (λ n m. n + 2 ^ b ≤ 2 ^ (b + m)) (eqb (f .to) j) _ _ t
     (λ here h. let (e, u) = and-parts (eqb (f .shift) b) _ h in
     rw (eqb→eq (f .shift) b e, ← add-assoc b (f .width) (filled fs j))
-    (omega (arith, ends fs x j (b + f .width) u, within (2 ^ b - 1) (taken x f) b (f .width) (ones-lt b) (small x f), pow-pos b)))
+    (omega (arith, ends fs x j (b + f .width) u, end-at (2 ^ b - 1) (taken x f) b (f .width) (ones-lt b) (small x f), pow-pos b)))
     (λ off u. ends fs x j b u)
 
 pub made-less : (fs : List Field) (x : ℕ → ℕ) (j : ℕ) → T (gapless fs j 0) → made fs x j < 2 ^ filled fs j

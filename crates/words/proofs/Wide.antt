@@ -3,36 +3,56 @@
 use mathlib.Core.Path.{_≡_}
 use mathlib.Core.List.{List, [], _∷_}
 use Prim.Native.Nat.{ℕ, zero, suc, _*_, _/_, _%_, _^_}
-use lib.ListN.{length}
+use lib.Dec.{T}
+use lib.ListN.{length, getD}
 use Rattle.tile.specs.declared.found.Found.{Found}
-use Rattle.words.specs.Field.{Field, bits}
+use Rattle.words.specs.Field.{Field, bits, filled}
 use Rattle.words.specs.Layout.{Value, Number, Necessary, Unnecessary, Layout, whole}
-use Rattle.words.specs.Packing.{Fits, wordBy, goalsBy}
-use Rattle.words.proofs.Round.{goals-again, words-again}
+use Rattle.words.specs.Packing.{wordBy, PackedBy, firstOf, goalsBy}
+use Rattle.words.proofs.Held.{Holder, there-and-back, back-and-there}
+use Rattle.words.proofs.Round.{first-at, words-again}
+use Rattle.words.proofs.Runs.{gapless}
 
 -- a field for each of n goals, from goal g on
-abbrev fields : (ℕ → Field) → ℕ → ℕ → List Field
-fields f g zero = []
-fields f g (suc n) = f g ∷ fields f (suc g) n
+abbrev row : (ℕ → Field) → ℕ → ℕ → List Field
+row f g zero = []
+row f g (suc n) = f g ∷ row f (suc g) n
 
 -- The places of goal 0's number and necessary set are unused.
 abbrev twelveGoals : Value → List Field
-twelveGoals Number = fields (λ g. whole g 0 (5 * g) 5) 1 11
-twelveGoals Necessary = fields (λ g. whole g (g / 6) (9 * (g % 6)) 9) 1 11
-twelveGoals Unnecessary = fields (λ g. whole g (g / 6) (9 * (g % 6)) 9) 0 12
+twelveGoals Number = row (λ g. whole g 0 (5 * g) 5) 1 11
+twelveGoals Necessary = row (λ g. whole g (g / 6) (9 * (g % 6)) 9) 1 11
+twelveGoals Unnecessary = row (λ g. whole g (g / 6) (9 * (g % 6)) 9) 0 12
 
 abbrev wide : Layout
 wide = record { goals = 12; fields = twelveGoals }
 
-goals-wide : (g : List Found) → length g ≡ 12 → Fits wide g → goalsBy wide (wordBy wide g) ≡ g
-goals-wide = goals-again wide tt
+-- five words in lists, one of numbers and two of each set
+abbrev many : Value → ℕ
+many Number = 1
+many Necessary = 2
+many Unnecessary = 2
 
--- bits 5 to 59 of the number word are used, 9 to 53 of the first necessary word, 0 to 53 of the other sets' words
-number-wide : (w : Value → ℕ → ℕ) → wordBy wide (goalsBy wide w) Number 0 ≡ bits (w Number 0) 5 55 * 2 ^ 5
-number-wide w = words-again wide tt w Number 0 5 tt
+abbrev holder : Holder (Value → List ℕ)
+holder = record { lay = λ w v. firstOf (many v) (w v); at = λ w v j. getD (w v) j 0; many = many; reads = λ w v j u. first-at 0 (many v) (w v) j u }
 
-necessary-wide : (w : Value → ℕ → ℕ) → wordBy wide (goalsBy wide w) Necessary 0 ≡ bits (w Necessary 0) 9 45 * 2 ^ 9
-necessary-wide w = words-again wide tt w Necessary 0 9 tt
+wide-again : {g : List Found} {x : Value → List ℕ} → length g ≡ 12 → PackedBy wide (holder .lay) g 0 x → goalsBy wide (holder .at x) ≡ g
+wide-again = there-and-back wide holder tt tt
 
-unnecessary-wide : (w : Value → ℕ → ℕ) → wordBy wide (goalsBy wide w) Unnecessary 1 ≡ bits (w Unnecessary 1) 0 54 * 2 ^ 0
-unnecessary-wide w = words-again wide tt w Unnecessary 1 0 tt
+wide-back : (x : Value → List ℕ) {y : Value → List ℕ} {c : ℕ} → PackedBy wide (holder .lay) (goalsBy wide (holder .at x)) c y
+    → (c ≡ 0) × (y ≡ holder .lay (wordBy wide (goalsBy wide (holder .at x))))
+wide-back = back-and-there wide holder tt
+
+-- bits 5 to 59 of the number word are used, 9 to 53 of the first necessary word, 0 to 53 of the other words
+used : (w : Value → ℕ → ℕ) (v : Value) (j b : ℕ) → T (gapless (twelveGoals v) j b) → wordBy wide (goalsBy wide w) v j ≡ bits (w v j) b (filled (twelveGoals v) j) * 2 ^ b
+used = words-again wide tt
+
+number-used : (w : Value → ℕ → ℕ) → wordBy wide (goalsBy wide w) Number 0 ≡ bits (w Number 0) 5 55 * 2 ^ 5
+number-used w = used w Number 0 5 tt
+
+first-used : (w : Value → ℕ → ℕ) → wordBy wide (goalsBy wide w) Necessary 0 ≡ bits (w Necessary 0) 9 45 * 2 ^ 9
+first-used w = used w Necessary 0 9 tt
+
+others-used : (w : Value → ℕ → ℕ) → let v = wordBy wide (goalsBy wide w) in
+    (v Necessary 1 ≡ bits (w Necessary 1) 0 54 * 2 ^ 0) × (v Unnecessary 0 ≡ bits (w Unnecessary 0) 0 54 * 2 ^ 0) × (v Unnecessary 1 ≡ bits (w Unnecessary 1) 0 54 * 2 ^ 0)
+others-used w = (used w Necessary 1 0 tt, used w Unnecessary 0 0 tt, used w Unnecessary 1 0 tt)

@@ -4,5 +4,5 @@ pub mod Layout
 pub mod Packing
 pub mod Promise
 -- What the private functions compute, as the code has it.
-pub mod Part
+pub mod Code
 pub mod Limit

@@ -1,5 +1,6 @@
--- Packing and unpacking by any layout (01 "Packed words").
+-- Packing and unpacking by any layout (01 "Packed words", refusal 9).
 -- Assumes nothing.
+use mathlib.Core.Path.{_≡_}
 use mathlib.Core.List.{List, [], _∷_, map}
 use Prim.Native.Nat.{ℕ, zero, suc, _^_, _<_}
 use lib.ListN.{getD}
@@ -25,6 +26,12 @@ pub record Fits (l : Layout) (g : List Found) : Type 0 where
 abbrev pub wordBy : Layout → List Found → Value → ℕ → ℕ
 wordBy l g v j = made (l .fields v) (valueAt v g) j
 
+-- what packing gives: code 0 and the words; or, exactly where a value does not fit, code 9 and words that are all 0.
+-- Words are held in some type W, into which `lay` puts them.
+pub data PackedBy {W : Type 0} (l : Layout) (lay : (Value → ℕ → ℕ) → W) (g : List Found) (code : ℕ) (words : W) : Type 0 where
+  packs : Fits l g → code ≡ 0 → words ≡ lay (wordBy l g) → PackedBy l lay g code words
+  refuses : (Fits l g → ⊥) → code ≡ 9 → words ≡ lay (λ v j. 0) → PackedBy l lay g code words
+
 -- goal i, as words make it, where w v j is word j of value v
 abbrev pub goalBy : Layout → (Value → ℕ → ℕ) → ℕ → Found
 goalBy l w i = record { number = value Number; necessary = value Necessary; unnecessary = value Unnecessary }
@@ -37,5 +44,6 @@ abbrev pub firstOf : {A : Type 0} → ℕ → (ℕ → A) → List A
 firstOf zero f = []
 firstOf (suc n) f = f 0 ∷ firstOf n (λ i. f (suc i))
 
+-- what unpacking gives
 abbrev pub goalsBy : Layout → (Value → ℕ → ℕ) → List Found
 goalsBy l w = firstOf (l .goals) (goalBy l w)

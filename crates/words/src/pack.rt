@@ -1,15 +1,15 @@
 // Packing (01 "Packed words"): ten goals give seven words, or a refusal.
 ghost use mathlib.Core.Path.{_≡_};
 ghost use Rattle.words.specs.Layout.{Number, Necessary, Unnecessary, sevenWords};
-ghost use Rattle.words.specs.Packing.{wordBy};
-ghost use Rattle.words.specs.Promise.{three, wordsOf, PackedFrom};
-ghost use Rattle.words.specs.Part.{threeSets};
+ghost use Rattle.words.specs.Packing.{wordBy, firstOf};
+ghost use Rattle.words.specs.Promise.{seven, PackedFrom};
+ghost use Rattle.words.specs.Code.{threeSets};
+use crate::field::number_at;
+use crate::field::piece_at;
+use crate::field::set_at;
 use crate::limit::all_fit;
 use crate::packed::Packed;
 use crate::packed::Words;
-use crate::part::number_at;
-use crate::part::set_at;
-use crate::part::set_part_at;
 use tile::found::Found;
 
 // 01's number for what cannot be packed.
@@ -18,15 +18,15 @@ const UNFIT: u8 = 9;
 fn number_word(goals: [Found; 10]) -> u32
     ensures { λ r. ⌜ r ≡ wordBy sevenWords goals Number 0 ⌝ }
 {
-    number_at(goals[1].number, 2, 0)
-        + number_at(goals[2].number, 3, 2)
-        + number_at(goals[3].number, 4, 5)
-        + number_at(goals[4].number, 4, 9)
-        + number_at(goals[5].number, 2, 13)
-        + number_at(goals[6].number, 3, 15)
-        + number_at(goals[7].number, 4, 18)
-        + number_at(goals[8].number, 4, 22)
-        + number_at(goals[9].number, 4, 26)
+    number_at(goals[1].number, 0, 2)
+        + number_at(goals[2].number, 2, 3)
+        + number_at(goals[3].number, 5, 4)
+        + number_at(goals[4].number, 9, 4)
+        + number_at(goals[5].number, 13, 2)
+        + number_at(goals[6].number, 15, 3)
+        + number_at(goals[7].number, 18, 4)
+        + number_at(goals[8].number, 22, 4)
+        + number_at(goals[9].number, 26, 4)
 }
 
 // Three sets, one above the other.
@@ -37,7 +37,7 @@ fn three_sets(a: u16, b: u16, c: u16) -> u32
 }
 
 fn necessary_words(goals: [Found; 10]) -> [u32; 3]
-    ensures { λ r. ⌜ r ≡ three (wordBy sevenWords goals Necessary) ⌝ }
+    ensures { λ r. ⌜ r ≡ firstOf 3 (wordBy sevenWords goals Necessary) ⌝ }
 {
     [
         three_sets(goals[1].necessary, goals[2].necessary, goals[3].necessary),
@@ -53,20 +53,20 @@ fn unnecessary_word_0(goals: [Found; 10]) -> u32
     set_at(goals[0].unnecessary, 0)
         + set_at(goals[1].unnecessary, 9)
         + set_at(goals[2].unnecessary, 18)
-        + set_part_at(goals[3].unnecessary, 4, 5, 27)
+        + piece_at(goals[3].unnecessary, 4, 27, 5)
 }
 
 fn unnecessary_word_1(goals: [Found; 10]) -> u32
     ensures { λ r. ⌜ r ≡ wordBy sevenWords goals Unnecessary 1 ⌝ }
 {
-    set_part_at(goals[3].unnecessary, 0, 4, 0)
+    piece_at(goals[3].unnecessary, 0, 0, 4)
         + set_at(goals[4].unnecessary, 4)
         + set_at(goals[5].unnecessary, 13)
         + set_at(goals[6].unnecessary, 22)
 }
 
 fn unnecessary_words(goals: [Found; 10]) -> [u32; 3]
-    ensures { λ r. ⌜ r ≡ three (wordBy sevenWords goals Unnecessary) ⌝ }
+    ensures { λ r. ⌜ r ≡ firstOf 3 (wordBy sevenWords goals Unnecessary) ⌝ }
 {
     [
         unnecessary_word_0(goals),
@@ -80,7 +80,7 @@ fn unnecessary_words(goals: [Found; 10]) -> [u32; 3]
 }
 
 fn words_of(goals: [Found; 10]) -> Words
-    ensures { λ r. ⌜ r ≡ wordsOf goals ⌝ }
+    ensures { λ r. ⌜ r ≡ seven (wordBy sevenWords goals) ⌝ }
 {
     Words {
         number: number_word(goals),

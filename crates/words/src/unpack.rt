@@ -1,20 +1,20 @@
 // Unpacking (01 "Packed words"): any seven words give ten goals.
 ghost use mathlib.Core.Path.{_≡_};
-ghost use mathlib.Core.List.{map};
+ghost use mathlib.Core.List.{[], _∷_, map};
 ghost use lib.ListN.{getD};
 ghost use Rattle.words.specs.Field.{back, made};
 ghost use Rattle.words.specs.Layout.{Number, Necessary, Unnecessary, tenGoals};
 ghost use Rattle.words.specs.Packing.{firstOf};
 ghost use Rattle.words.specs.Promise.{goalsOf};
-ghost use Rattle.words.specs.Part.{goalsFrom};
+ghost use Rattle.words.specs.Code.{goalsFrom};
+use crate::field::number;
+use crate::field::set;
+use crate::field::split_set;
 use crate::packed::Words;
-use crate::part::number;
-use crate::part::set;
-use crate::part::split_set;
 use tile::found::Found;
 
 fn numbers(word: u32) -> [u8; 10]
-    ensures { λ r. ⌜ r ≡ firstOf 10 (made (map back (tenGoals Number)) (λ j. word)) ⌝ }
+    ensures { λ r. ⌜ r ≡ firstOf 10 (made (map back (tenGoals Number)) (λ j. getD (word ∷ []) j 0)) ⌝ }
 {
     [
         0,

@@ -6,7 +6,6 @@ use lib.ListN.{getD}
 use Rattle.tile.specs.declared.found.Found.{Found}
 use Rattle.words.specs.declared.packed.Words.{Words}
 use Rattle.words.specs.Packing.{firstOf}
-use Rattle.words.specs.Promise.{three}
 
 -- numbers of two and of four bytes, lowest first
 abbrev pub setOf : ℕ → ℕ → ℕ
@@ -35,6 +34,6 @@ abbrev pub wordsIn : List ℕ → Words
 wordsIn q =
     record {
       number = wordAt q 2;
-      necessary = three (λ w. wordAt q (6 + 4 * w));
-      unnecessary = three (λ w. wordAt q (18 + 4 * w));
+      necessary = firstOf 3 (λ w. wordAt q (6 + 4 * w));
+      unnecessary = firstOf 3 (λ w. wordAt q (18 + 4 * w));
     }

@@ -1,7 +1,7 @@
 -- `unpack` meets its contract: each goal has the values that were read for it. Assumes nothing.
 use mathlib.Core.Path.{_∙_}
 use borrow.Author.Needs.{needs}
-use Rattle.words.specs.Part.{goalsFrom}
+use Rattle.words.specs.Code.{goalsFrom}
 use Rattle.words.proofs.unpack.unpack.Statement.{statement}
 use Rattle.words.proofs.unpack.unpack.Tie as tie
 

@@ -1,4 +1,4 @@
--- What fields read from words come to, as `made` computes it of a layout.
+-- What the private functions give. Where they are parts of what a layout makes, this is written as `made` leaves it, with `* 2 ^ 0` and `+ 0`.
 -- Assumes nothing.
 use mathlib.Core.List.{List}
 use Prim.Native.Nat.{ℕ, _+_, _*_, _^_}
