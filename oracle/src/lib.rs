@@ -31,7 +31,6 @@ pub mod answer;
 pub mod hand;
 pub mod merged;
 pub mod notation;
-pub mod packing;
 pub mod record;
 pub mod refusal;
 pub mod show;

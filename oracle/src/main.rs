@@ -8,12 +8,12 @@ use oracle::compare::{Sizes, compare};
 use oracle::hand::Hand;
 use oracle::judge::print_counts;
 use oracle::options::Options;
-use oracle::packing::question::Question as WordQuestion;
-use oracle::packing::record::answers as word_answers;
 use oracle::record::answers;
 use oracle::show::show;
 use oracle::suit::question::Question;
 use oracle::suit::record::answers as suit_answers;
+use oracle::words::question::Question as WordQuestion;
+use oracle::words::record::answers as word_answers;
 use oracle::{judge, make, merged, searched};
 
 const USAGE: &str = "usage:
@@ -124,7 +124,7 @@ fn make_suits(options: &mut Options) -> Result<Vec<u8>, String> {
 
 fn make_words(options: &mut Options) -> Result<Vec<u8>, String> {
     let seed = options.number("--seed", 1)?;
-    let count = options.number("--count", 1_000)?;
+    let count = options.number("--count", 2_000)?;
     let questions = make::words::words(seed, count as usize);
     Ok(questions.iter().flat_map(WordQuestion::record).collect())
 }

@@ -2,6 +2,7 @@
 //! unpacking, and in place of the hashes and maps stand-ins that search.
 
 use crate::build_map::{MapValue, pack_values};
+use crate::suit::Suit;
 use crate::words::{Goals, Words};
 
 #[path = "../verbatim/src/standard/core.rs"]
@@ -41,22 +42,21 @@ mod published_19_map;
 #[rustfmt::skip]
 mod wanzi_19_table;
 
-pub use lookup::forget;
+pub mod published;
 
-/// How many entries the published map of 1m/9m has.
-pub const PUBLISHED: usize = wanzi_19_table::WANZI_19_SIZE;
+pub use lookup::forget;
 
 /// The words of a suit, searched afresh. N is 9 for nine ranks, 7 for honours, 2 for 1m/9m.
 pub fn search<const N: usize>(counts: &[u8; N]) -> Words {
     words(&pack_values(counts))
 }
 
-/// The words of an entry of the published map; the entry is 5 times 1m plus 9m.
-pub fn published(entry: usize) -> Words {
-    Words {
-        number: published_19_map::WANZI_19_REPLACEMENT_NUMBER_MAP[entry],
-        necessary: published_19_map::WANZI_19_NECESSARY_TILES_MAP[entry],
-        unnecessary: published_19_map::WANZI_19_UNNECESSARY_TILES_MAP[entry],
+/// The same for a suit by its own counts, which of 1m/9m are nine as well.
+pub fn search_suit(suit: Suit, counts: &[u8]) -> Words {
+    match suit {
+        Suit::Ranks => search(counts.first_chunk::<9>().expect("nine counts")),
+        Suit::Honours => search(counts.first_chunk::<7>().expect("seven counts")),
+        Suit::Ends => search(&[counts[0], counts[8]]),
     }
 }
 

@@ -1,5 +1,11 @@
 //! The packed words of document 01 ("Packed words"), written from its text and not from
-//! the Rust source, whose packing cannot be run apart from the search.
+//! the Rust source, whose packing cannot be run apart from the search; and below, what can
+//! be asked of them: ten goals to be packed, or seven words to be unpacked.
+
+pub mod bytes;
+pub mod question;
+pub mod record;
+pub mod refusal;
 
 use std::array;
 

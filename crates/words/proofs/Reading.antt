@@ -1,4 +1,4 @@
--- What fields have made is read back: where the fields of each number stand in rising order, each finds in it the bits that it has put there.
+-- What fields have made is read back: where the fields of each cell stand in rising order, each finds in it the bits that it has put there.
 -- Assumes nothing.
 use mathlib.Core.Path.{_≡_, refl, sym, _∙_}
 use mathlib.Core.Bool.{Bool, true, false, cond, not, _&&_}
@@ -11,7 +11,7 @@ use lib.Pow.{pow-pos, pow-mono, pow-add, high, low}
 use Rattle.tile.proofs.Tests.{and-parts}
 use Rattle.words.specs.Field.{Field, back, bits, made}
 
--- the fields of number j stand in rising order, none below bit b and none over another
+-- the fields of cell j stand in rising order, none below bit b and none over another
 abbrev rising : List Field → ℕ → ℕ → Bool
 rising [] j b = true
 rising (f ∷ fs) j b = cond (eqb (f .to) j) (leb b (f .shift) && rising fs j (f .shift + f .width)) (rising fs j b)
@@ -20,7 +20,7 @@ abbrev pub every : (Field → Bool) → List Field → Bool
 every test [] = true
 every test (f ∷ fs) = test f && every test fs
 
--- so for each number that has a field
+-- so for each cell that has a field
 abbrev pub tidy : List Field → Bool
 tidy fs = every (λ f. rising fs (f .to) 0) fs
 
@@ -28,7 +28,7 @@ tidy fs = every (λ f. rising fs (f .to) 0) fs
 abbrev own : Field → Field
 own f = record { from = f .to; low = f .shift; to = f .to; shift = f .shift; width = f .width }
 
--- of number j only the bits that fields hold
+-- of cell j only the bits that fields hold
 abbrev pub kept : List Field → (ℕ → ℕ) → ℕ → ℕ
 kept fs x j = made (map own fs) x j
 
@@ -89,7 +89,7 @@ module _ (x : ℕ → ℕ) where
       ((q * 2 ^ f .width + taken f) * 2 ^ (f .shift - b), rw (e, m) (lower _ b (f .shift) (leb→le b (f .shift) l))))
       (λ off u. multiple fs j b u)
 
-  -- each field of number j finds what it has put there, whatever r stands below
+  -- each field of cell j finds what it has put there, whatever r stands below
   finds : (fs : List Field) (j b r n : ℕ) → T (rising fs j b) → r < 2 ^ b → n ≡ r + made fs x j → Each (λ f. T (eqb (f .to) j) → Holds n f) fs
   finds [] j b r n t l e = tt
   finds (f ∷ fs) j b r n t l e =
@@ -113,6 +113,6 @@ module _ (x : ℕ → ℕ) where
       let (r, u) = and-parts (rising fs (g .to) 0) _ t in
       rw (h (g .to) r .0 (eqb-refl (g .to)), brings fs gs i u (λ j v. h j v .1))
 
--- there and back again, each number has what it had, of the bits that fields hold
+-- there and back again, each cell has what it had, of the bits that fields hold
 pub again : (fs : List Field) → T (tidy fs) → (x : ℕ → ℕ) (i : ℕ) → made (map back fs) (made fs x) i ≡ kept (map back fs) x i
 again fs t x i = brings x fs fs i t (λ j u. finds x fs j 0 0 (made fs x j) u (pow-pos 0) (sym (zero-add (made fs x j))))

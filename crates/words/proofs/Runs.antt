@@ -1,4 +1,4 @@
--- Fields without a gap between them hold a run of bits: what they make, and what is left of a number that went there and back.
+-- Fields without a gap between them hold a run of bits: what they make, and what is left of a cell that went there and back.
 -- Assumes nothing.
 use mathlib.Core.Path.{_≡_, refl, ap, _∙_}
 use mathlib.Core.Bool.{Bool, true, cond, _&&_}
@@ -12,7 +12,7 @@ use Rattle.tile.proofs.Tests.{and-parts}
 use Rattle.words.specs.Field.{Field, back, bits, made, filled}
 use Rattle.words.proofs.Reading.{tidy, kept, by-choices, again, above, end-at, taken, small}
 
--- the fields of number j follow each other without a gap, from bit b on
+-- the fields of cell j follow each other without a gap, from bit b on
 abbrev pub gapless : List Field → ℕ → ℕ → Bool
 gapless [] j b = true
 gapless (f ∷ fs) j b = cond (eqb (f .to) j) (eqb (f .shift) b && gapless fs j (b + f .width)) (gapless fs j b)
@@ -51,7 +51,7 @@ back-back : (fs : List Field) → map back (map back fs) ≡ fs
 back-back [] = refl
 back-back (f ∷ fs) = ap (λ (gs : List Field). f ∷ gs) (back-back fs)
 
--- a number that goes there and back keeps its run, and nothing else
+-- a cell that goes there and back keeps its run, and nothing else
 pub cleared-run : (fs : List Field) → T (tidy (map back fs)) → (w : ℕ → ℕ) (j b : ℕ) → T (gapless fs j b)
     → made fs (made (map back fs) w) j ≡ bits (w j) b (filled fs j) * 2 ^ b
 cleared-run fs t w j b g = (rw (back-back fs) at (again (map back fs) t w j)) ∙ kept-run fs w j b g

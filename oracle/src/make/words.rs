@@ -2,21 +2,28 @@
 
 mod any;
 mod cases;
-mod field;
 mod limits;
 mod published;
 mod refused;
 mod suits;
+mod value;
+
+pub use any::drawn;
 
 use super::once;
-use crate::packing::question::Question;
 use crate::random::Random;
+use crate::words::question::Question;
 use crate::words::{Goals, Words};
 
 /// The published entries, suits (of them `count` random ones each of nine ranks and of
 /// honours), any words, goals that just fit, then what is refused.
 pub fn words(seed: u64, count: usize) -> Vec<Question> {
-    once(groups(seed, count).concat(), Question::record)
+    joined(&groups(seed, count))
+}
+
+/// One group after another, with nothing asked twice.
+fn joined(groups: &[Vec<Question>; 5]) -> Vec<Question> {
+    once(groups.concat(), Question::record)
 }
 
 fn groups(seed: u64, count: usize) -> [Vec<Question>; 5] {

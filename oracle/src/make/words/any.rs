@@ -1,9 +1,9 @@
 //! Words whatever bits they have, the unused ones too.
 
 use super::both_ways;
-use crate::packing::question::Question;
 use crate::random::Random;
-use crate::standard::{PUBLISHED, published, unpack};
+use crate::standard::{published, unpack};
+use crate::words::question::Question;
 use crate::words::{Words, cleared};
 
 const RANDOM: usize = 300;
@@ -33,14 +33,14 @@ fn unused() -> Words {
 /// The published entries with all unused bits set.
 fn spoiled() -> Vec<Words> {
     let of = |entry| {
-        let (mut words, unused) = (published(entry).seven(), unused().seven());
+        let (mut words, unused) = (published::words(entry).seven(), unused().seven());
         words
             .iter_mut()
             .zip(unused)
             .for_each(|(word, bits)| *word |= bits);
         Words::new(words)
     };
-    (0..PUBLISHED).map(of).collect()
+    (0..published::ENTRIES).map(of).collect()
 }
 
 /// Each bit of the seven words alone.
@@ -53,6 +53,7 @@ pub fn single_bits() -> Vec<Words> {
     (0..7 * 32).map(of).collect()
 }
 
-fn drawn(random: &mut Random) -> Words {
+/// Seven random words.
+pub fn drawn(random: &mut Random) -> Words {
     Words::new([0; 7].map(|_: u32| random.word() as u32))
 }

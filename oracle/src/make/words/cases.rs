@@ -1,10 +1,10 @@
 //! Goals that are refused, each with the faults that they were made with.
 
-use super::field::Field;
 use super::refused::refused;
-use crate::packing::question::Question;
-use crate::packing::refusal::{Fault, faults};
+use super::value::Value;
 use crate::words::Goals;
+use crate::words::question::Question;
+use crate::words::refusal::{Fault, faults};
 
 /// What is told comes from how the goals were made, and not from the tests of `refusal`.
 pub struct Case {
@@ -21,26 +21,26 @@ pub fn questions() -> Vec<Question> {
     refused().into_iter().map(checked).collect()
 }
 
-/// Good goals made wrong: each of these fields gets a value that is too large for it.
-pub fn spoiled(good: &Goals, wrong: &[(Field, u16)]) -> Case {
+/// Good goals made wrong: each of these values gets the content beside it, too large for it.
+pub fn spoiled(good: &Goals, wrong: &[(Value, u16)]) -> Case {
     let mut goals = good.clone();
     let mut told = Vec::new();
-    for &(field, value) in wrong {
-        field.set(&mut goals, value);
-        told.extend(told_of(field, value));
+    for &(value, content) in wrong {
+        value.set(&mut goals, content);
+        told.extend(told_of(value, content));
     }
     told.sort_unstable();
     Case { goals, told }
 }
 
 /// Goal 0's necessary set can be wrong in both ways at once.
-fn told_of(field: Field, value: u16) -> Vec<Fault> {
-    match field {
-        Field::Number(0) => vec![Fault::FirstNumber],
-        Field::Necessary(0) if value < 0x200 => vec![Fault::FirstNecessary],
-        Field::Necessary(0) => vec![Fault::FirstNecessary, Fault::Necessary(0)],
-        Field::Number(goal) => vec![Fault::Number(goal)],
-        Field::Necessary(goal) => vec![Fault::Necessary(goal)],
-        Field::Unnecessary(goal) => vec![Fault::Unnecessary(goal)],
+fn told_of(value: Value, content: u16) -> Vec<Fault> {
+    match value {
+        Value::Number(0) => vec![Fault::FirstNumber],
+        Value::Necessary(0) if content < 0x200 => vec![Fault::FirstNecessary],
+        Value::Necessary(0) => vec![Fault::FirstNecessary, Fault::Necessary(0)],
+        Value::Number(goal) => vec![Fault::Number(goal)],
+        Value::Necessary(goal) => vec![Fault::Necessary(goal)],
+        Value::Unnecessary(goal) => vec![Fault::Unnecessary(goal)],
     }
 }

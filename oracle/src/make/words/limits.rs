@@ -1,13 +1,13 @@
 //! Goals that are packed, up to the largest values that fit.
 
-use super::field::{Field, at_largest, stored};
-use crate::packing::question::Question;
+use super::value::{Value, at_largest, stored};
 use crate::random::Random;
 use crate::words::Goals;
+use crate::words::question::Question;
 
 const RANDOM: usize = 300;
 
-/// None, each field alone, all numbers, all sets of a kind, everything, then random goals.
+/// None, each value alone, all numbers, all sets of a kind, everything, then random goals.
 pub fn limits(random: &mut Random) -> Vec<Question> {
     let mut goals = vec![Goals::default()];
     goals.extend(alone());
@@ -17,30 +17,30 @@ pub fn limits(random: &mut Random) -> Vec<Question> {
     goals.into_iter().map(Question::Pack).collect()
 }
 
-/// Each field at its largest and nothing else.
+/// Each value at its largest and nothing else.
 pub fn alone() -> Vec<Goals> {
-    let fields = stored().into_iter();
-    fields.map(|field| at_largest(&[field])).collect()
+    let values = stored().into_iter();
+    values.map(|value| at_largest(&[value])).collect()
 }
 
 fn kinds() -> [Goals; 3] {
-    let tests: [fn(&Field) -> bool; 3] = [
-        |field| matches!(field, Field::Number(_)),
-        |field| matches!(field, Field::Necessary(_)),
-        |field| matches!(field, Field::Unnecessary(_)),
+    let tests: [fn(&Value) -> bool; 3] = [
+        |value| matches!(value, Value::Number(_)),
+        |value| matches!(value, Value::Necessary(_)),
+        |value| matches!(value, Value::Unnecessary(_)),
     ];
     tests.map(|test| {
-        let mut fields = stored();
-        fields.retain(test);
-        at_largest(&fields)
+        let mut values = stored();
+        values.retain(test);
+        at_largest(&values)
     })
 }
 
 fn fitting(random: &mut Random) -> Goals {
     let mut goals = Goals::default();
-    for field in stored() {
-        let values = usize::from(field.largest()) + 1;
-        field.set(&mut goals, random.below(values) as u16);
+    for value in stored() {
+        let end = usize::from(value.largest()) + 1;
+        value.set(&mut goals, random.below(end) as u16);
     }
     goals
 }

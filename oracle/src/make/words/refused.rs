@@ -1,13 +1,13 @@
 //! What is refused: one fault, two, and all at once.
 
 use super::cases::{Case, spoiled};
-use super::field::{Field, at_largest, fields, stored};
+use super::value::{Value, at_largest, stored, values};
 use crate::searched;
 use crate::suit::Suit;
 use crate::words::Goals;
 
-/// One over no bits, two, three and four, and so that a byte or its sign would wrap. What a
-/// field has room for is not wrong there.
+/// One over no bits, two, three and four, and so that a byte or its sign would wrap. A number
+/// gets those that are too large for it.
 const NUMBERS: [u16; 6] = [1, 4, 8, 16, 128, 255];
 
 /// Wrong for goal 0's necessary set alone, then with bits that no set may have.
@@ -27,22 +27,22 @@ fn of_a_suit() -> Goals {
     searched::goals(Suit::Ranks, &[3, 1, 1, 1, 1, 1, 1, 1, 3])
 }
 
-/// Each field with each value that is wrong there.
+/// Each value with each content that is too large for it.
 fn one_fault(good: &Goals) -> Vec<Case> {
-    let wrong = |field| too_large(field).map(move |value| spoiled(good, &[(field, value)]));
-    fields().into_iter().flat_map(wrong).collect()
+    let wrong = |value| too_large(value).map(move |content| spoiled(good, &[(value, content)]));
+    values().into_iter().flat_map(wrong).collect()
 }
 
-fn too_large(field: Field) -> impl Iterator<Item = u16> {
-    let values: &[u16] = match field {
-        Field::Number(_) => &NUMBERS,
-        Field::Necessary(_) | Field::Unnecessary(_) => &SETS,
+fn too_large(value: Value) -> impl Iterator<Item = u16> {
+    let contents: &[u16] = match value {
+        Value::Number(_) => &NUMBERS,
+        Value::Necessary(_) | Value::Unnecessary(_) => &SETS,
     };
-    let values = values.iter().copied();
-    values.filter(move |&value| value > field.largest())
+    let contents = contents.iter().copied();
+    contents.filter(move |&content| content > value.largest())
 }
 
-/// Every two fields, each over by one.
+/// Every two values, each over by one.
 fn two_faults(good: &Goals) -> Vec<Case> {
     let over = over_by_one();
     let mut cases = Vec::new();
@@ -53,17 +53,17 @@ fn two_faults(good: &Goals) -> Vec<Case> {
     cases
 }
 
-/// All fields over by one; all bytes 255.
+/// All values over by one; all bytes 255.
 fn all_faults() -> [Case; 2] {
-    let all_ones = |field| match field {
-        Field::Number(_) => (field, 0xFF),
-        Field::Necessary(_) | Field::Unnecessary(_) => (field, 0xFFFF),
+    let all_ones = |value| match value {
+        Value::Number(_) => (value, 0xFF),
+        Value::Necessary(_) | Value::Unnecessary(_) => (value, 0xFFFF),
     };
-    let ones: Vec<_> = fields().into_iter().map(all_ones).collect();
+    let ones: Vec<_> = values().into_iter().map(all_ones).collect();
     [over_by_one(), ones].map(|wrong| spoiled(&Goals::default(), &wrong))
 }
 
-fn over_by_one() -> Vec<(Field, u16)> {
-    let fields = fields().into_iter();
-    fields.map(|field| (field, field.largest() + 1)).collect()
+fn over_by_one() -> Vec<(Value, u16)> {
+    let values = values().into_iter();
+    values.map(|value| (value, value.largest() + 1)).collect()
 }

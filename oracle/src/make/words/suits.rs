@@ -3,12 +3,11 @@
 use super::both_ways;
 use crate::make::suits::extremes::far_out;
 use crate::make::suits::{DRAWN, sorts};
-use crate::packing::question::Question;
 use crate::random::Random;
 use crate::searched;
-use crate::standard::search;
+use crate::standard::search_suit;
 use crate::suit::Suit;
-use crate::words::Words;
+use crate::words::question::Question;
 
 /// The empty suits, those that lie far out, then so many random ones of each.
 pub fn suits(random: &mut Random, count: usize) -> Vec<Question> {
@@ -23,15 +22,7 @@ pub fn suits(random: &mut Random, count: usize) -> Vec<Question> {
     questions
 }
 
+/// The words that `pack_values` gives, and what is searched goal by goal.
 fn asked(suit: Suit, counts: &[u8]) -> [Question; 2] {
-    both_ways(packed(suit, counts), searched::goals(suit, counts))
-}
-
-/// The words that `pack_values` gives.
-fn packed(suit: Suit, counts: &[u8]) -> Words {
-    match suit {
-        Suit::Ranks => search(counts.first_chunk::<9>().expect("nine counts")),
-        Suit::Honours => search(counts.first_chunk::<7>().expect("seven counts")),
-        Suit::Ends => search(&[counts[0], counts[8]]),
-    }
+    both_ways(search_suit(suit, counts), searched::goals(suit, counts))
 }

@@ -1,15 +1,23 @@
 //! What is asked, and what the answers to it are.
 
-use super::*;
-use crate::packing::bytes::{read_goals, read_words};
-use crate::packing::record::answer;
-use crate::packing::refusal::{Fault, faults};
-use crate::standard::unpack;
-use crate::words::cleared;
+use std::sync::LazyLock;
 
-/// What the stored files are made with.
+use super::*;
+use crate::standard::published::ENTRY_ZERO;
+use crate::standard::unpack;
+use crate::words::bytes::{read_goals, read_words};
+use crate::words::cleared;
+use crate::words::question::QUESTION_RECORD;
+use crate::words::record::answer;
+use crate::words::refusal::{Fault, faults};
+
+/// The stored questions, and what they are made with.
+const STORED: &[u8] = include_bytes!("../../../../crates/words_replay/stdin");
 const SEED: u64 = 3;
-const COUNT: usize = 1_000;
+const COUNT: usize = 2_000;
+
+/// The same questions in their groups, made once for all tests.
+static GROUPS: LazyLock<[Vec<Question>; 5]> = LazyLock::new(|| groups(SEED, COUNT));
 
 fn packed(question: &Question) -> Option<&Goals> {
     match question {
@@ -32,33 +40,38 @@ fn assert_crossed(questions: &[Question]) {
 }
 
 #[test]
+fn these_are_the_stored_questions() {
+    let made = joined(&GROUPS);
+    let records: Vec<u8> = made.iter().flat_map(Question::record).collect();
+    assert!(records == STORED);
+}
+
+#[test]
 fn searched_goals_are_packed_as_they_were_published() {
-    let published = published::published();
-    assert_eq!(published.len(), 2 * 25);
-    assert_crossed(&published);
+    let [published, ..] = &*GROUPS;
+    assert_crossed(published);
     let Question::Unpack(first) = &published[0] else {
         panic!("words");
     };
-    assert_eq!(first.number, 1_002_102_235);
+    assert_eq!(first.number, ENTRY_ZERO.word);
     let Question::Pack(first) = &published[1] else {
         panic!("goals");
     };
-    assert_eq!(first.numbers, [0, 3, 6, 14, 14, 2, 5, 14, 14, 14]);
+    assert_eq!(first.numbers, ENTRY_ZERO.numbers);
 }
 
 #[test]
 fn searched_goals_are_packed_as_by_the_rust_source() {
-    let suits = suits::suits(&mut Random::new(SEED), COUNT);
-    assert!(suits.len() > 2 * 2 * COUNT);
-    assert_crossed(&suits);
+    let [_, suits, ..] = &*GROUPS;
+    assert_crossed(suits);
 }
 
 #[test]
 fn what_is_packed_is_unpacked() {
-    let [accepted @ .., _] = groups(SEED, 20);
-    for question in accepted.concat() {
-        if let Question::Pack(goals) = &question {
-            let record = answer(&question);
+    let [accepted @ .., _] = &*GROUPS;
+    for question in accepted.iter().flatten() {
+        if let Question::Pack(goals) = question {
+            let record = answer(question);
             assert_eq!(record[0], 0, "{goals:?}");
             assert_eq!(unpack(&read_words(&record[1..])), *goals);
         }
@@ -66,7 +79,7 @@ fn what_is_packed_is_unpacked() {
 }
 
 #[test]
-fn each_field_at_its_largest_fills_its_own_bits() {
+fn each_value_at_its_largest_fills_its_own_bits() {
     let alone = limits::alone();
     assert_eq!(alone.len(), 9 + 9 + 10);
     let mut filled = [0; 7];
@@ -115,24 +128,36 @@ fn every_fault_is_made_alone() {
 fn what_was_made_to_be_refused_is_and_nothing_else() {
     let mut refusal = [0; 29];
     refusal[0] = 9;
-    let [accepted @ .., wrong] = groups(SEED, 20);
+    let [accepted @ .., wrong] = &*GROUPS;
     let mut right = accepted.concat();
     right.retain(|question| packed(question).is_some());
     assert!(right.iter().all(|question| answer(question)[0] == 0));
     assert!(wrong.iter().all(|question| answer(question) == refusal));
-    assert!(right.len() > 500 && wrong.len() > 500);
+}
+
+/// How many of a group are to be unpacked, and how many to be packed, with none twice.
+fn how_many(group: &Vec<Question>) -> (usize, usize) {
+    let asked = once(group, |question| question.record());
+    let goals = asked.iter().filter_map(|question| packed(question)).count();
+    (asked.len() - goals, goals)
+}
+
+#[test]
+fn as_many_are_asked_as_the_readme_tells() {
+    let told = [(25, 25), (3_424, 3_424), (553, 300), (0, 333), (0, 803)];
+    assert_eq!(GROUPS.each_ref().map(how_many), told);
 }
 
 #[test]
 fn no_group_asks_what_another_has_asked() {
-    let groups = groups(SEED, 20);
-    let each = groups.map(|group| once(group, Question::record).len());
-    assert_eq!(words(SEED, 20).len(), each.iter().sum());
+    let each = GROUPS.each_ref().map(how_many);
+    let asked: usize = each.map(|(words, goals)| words + goals).iter().sum();
+    assert_eq!(asked * QUESTION_RECORD, STORED.len());
 }
 
 #[test]
 fn every_record_is_read_back() {
-    for question in words(2, 20) {
+    for question in GROUPS.concat() {
         assert_eq!(Question::read(&question.record()), Some(question));
     }
 }

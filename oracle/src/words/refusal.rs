@@ -1,6 +1,6 @@
 //! Which goals are not packed, and why (document 01, "Refusal numbers", row 9).
 
-use crate::words::{Goals, NUMBER_WIDTHS};
+use super::{Goals, NUMBER_WIDTHS};
 
 pub const REFUSED: u8 = 9;
 

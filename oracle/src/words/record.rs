@@ -4,8 +4,8 @@
 use super::bytes::{goals_bytes, words_bytes};
 use super::question::{QUESTION_RECORD, Question};
 use super::refusal::{REFUSED, refused};
+use super::{Goals, pack};
 use crate::standard::unpack;
-use crate::words::{Goals, pack};
 
 pub const PACKED_RECORD: usize = 29;
 
@@ -40,27 +40,23 @@ fn packed(goals: &Goals) -> [u8; PACKED_RECORD] {
 #[cfg(test)]
 mod tests {
     use super::*;
-    use crate::standard::published;
-
-    /// Document 01 on entry 0 of the published map; goal 0 is not stored and reads 0.
-    const NUMBERS: [u8; 10] = [0, 3, 6, 14, 14, 2, 5, 14, 14, 14];
-    const NUMBER_WORD: u32 = 1_002_102_235;
+    use crate::standard::published::{ENTRY_ZERO, words};
 
     #[test]
     fn the_numbers_of_entry_zero() {
-        let goals = answer(&Question::Unpack(published(0)));
+        let goals = answer(&Question::Unpack(words(0)));
         assert_eq!(goals.len(), 50);
-        let numbers: Vec<u8> = goals.into_iter().step_by(5).collect();
-        assert_eq!(numbers, NUMBERS);
+        let numbers: Vec<u32> = goals.into_iter().step_by(5).map(u32::from).collect();
+        assert_eq!(numbers, ENTRY_ZERO.numbers);
     }
 
     #[test]
     fn the_number_word_of_entry_zero() {
-        let goals = Goals::new(|goal| (NUMBERS[goal].into(), 0, 0));
+        let goals = Goals::new(|goal| (ENTRY_ZERO.numbers[goal], 0, 0));
         let record = answer(&Question::Pack(goals));
         assert_eq!(record.len(), 29);
         assert_eq!(record[0], 0);
-        assert_eq!(record[1..5], NUMBER_WORD.to_le_bytes());
+        assert_eq!(record[1..5], ENTRY_ZERO.word.to_le_bytes());
         assert_eq!(record[5..], [0; 24]);
     }
 
@@ -68,7 +64,7 @@ mod tests {
     fn the_bytes_of_a_refusal() {
         let mut refusal = [0; 29];
         refusal[0] = 9;
-        let goals = Goals::new(|goal| (u32::from(NUMBERS[goal]), 0x1FF, 0x1FF));
+        let goals = Goals::new(|goal| (ENTRY_ZERO.numbers[goal], 0x1FF, 0x1FF));
         assert_eq!(answer(&Question::Pack(goals)), refusal);
     }
 

@@ -2,7 +2,7 @@
 //! the words.
 
 use super::bytes::{goals_bytes, read_goals, read_words, words_bytes};
-use crate::words::{Goals, Words};
+use super::{Goals, Words};
 
 pub const QUESTION_RECORD: usize = 52;
 

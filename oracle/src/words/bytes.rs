@@ -2,7 +2,7 @@
 
 use std::array;
 
-use crate::words::{Goals, Words};
+use super::{Goals, Words};
 
 /// Number, and the two sets in two bytes each, lowest first.
 const GOAL: usize = 5;
