@@ -2,6 +2,7 @@
 
 use oracle::make::suits::sorts::{drawn, loose, part_of_a_hand};
 use oracle::random::Random;
+use oracle::standard::published;
 use oracle::suit::Suit;
 
 use crate::group::{Group, Of};
@@ -47,6 +48,5 @@ fn part(random: &mut Random) -> Vec<u8> {
 }
 
 fn ends() -> Vec<[u8; 9]> {
-    let entries = (0..25).map(|entry| [entry / 5, 0, 0, 0, 0, 0, 0, 0, entry % 5]);
-    entries.collect()
+    (0..published::ENTRIES).map(published::counts).collect()
 }

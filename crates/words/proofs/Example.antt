@@ -32,8 +32,8 @@ goals =
 abbrev words : Words
 words = record { number = 854283029; necessary = 68027649 ∷ 68815620 ∷ 69603591 ∷ []; unnecessary = 3532210848 ∷ 697608771 ∷ 44388519 ∷ [] }
 
-packed : seven (wordBy sevenWords goals) ≡ words
-packed = refl
+example-packed : seven (wordBy sevenWords goals) ≡ words
+example-packed = refl
 
-unpacked : goalsOf words ≡ goals
-unpacked = refl
+example-unpacked : goalsOf words ≡ goals
+example-unpacked = refl

@@ -3,15 +3,13 @@
 use mathlib.Core.Path.{_≡_}
 use mathlib.Core.List.{List, [], _∷_}
 use Prim.Native.Nat.{ℕ, zero, suc, _*_, _/_, _%_, _^_}
-use lib.Dec.{T}
 use lib.ListN.{length, getD}
 use Rattle.tile.specs.declared.found.Found.{Found}
-use Rattle.words.specs.Field.{Field, bits, filled}
+use Rattle.words.specs.Field.{Field, bits}
 use Rattle.words.specs.Layout.{Value, Number, Necessary, Unnecessary, Layout, whole}
 use Rattle.words.specs.Packing.{wordBy, PackedBy, firstOf, goalsBy}
 use Rattle.words.proofs.Held.{Holder, there-and-back, back-and-there}
 use Rattle.words.proofs.Round.{first-at, words-again}
-use Rattle.words.proofs.Runs.{gapless}
 
 -- a field for each of n goals, from goal g on
 abbrev row : (ℕ → Field) → ℕ → ℕ → List Field
@@ -44,15 +42,18 @@ wide-back : (x : Value → List ℕ) {y : Value → List ℕ} {c : ℕ} → Pack
 wide-back = back-and-there wide holder tt
 
 -- bits 5 to 59 of the number word are used, 9 to 53 of the first necessary word, 0 to 53 of the other words
-used : (w : Value → ℕ → ℕ) (v : Value) (j b : ℕ) → T (gapless (twelveGoals v) j b) → wordBy wide (goalsBy wide w) v j ≡ bits (w v j) b (filled (twelveGoals v) j) * 2 ^ b
-used = words-again wide tt
+module _ (w : Value → ℕ → ℕ) where
+  abbrev again : Value → ℕ → ℕ
+  again = wordBy wide (goalsBy wide w)
 
-number-used : (w : Value → ℕ → ℕ) → wordBy wide (goalsBy wide w) Number 0 ≡ bits (w Number 0) 5 55 * 2 ^ 5
-number-used w = used w Number 0 5 tt
+  number-used : again Number 0 ≡ bits (w Number 0) 5 55 * 2 ^ 5
+  number-used = words-again wide tt w Number 0 5 tt
 
-first-used : (w : Value → ℕ → ℕ) → wordBy wide (goalsBy wide w) Necessary 0 ≡ bits (w Necessary 0) 9 45 * 2 ^ 9
-first-used w = used w Necessary 0 9 tt
+  first-used : again Necessary 0 ≡ bits (w Necessary 0) 9 45 * 2 ^ 9
+  first-used = words-again wide tt w Necessary 0 9 tt
 
-others-used : (w : Value → ℕ → ℕ) → let v = wordBy wide (goalsBy wide w) in
-    (v Necessary 1 ≡ bits (w Necessary 1) 0 54 * 2 ^ 0) × (v Unnecessary 0 ≡ bits (w Unnecessary 0) 0 54 * 2 ^ 0) × (v Unnecessary 1 ≡ bits (w Unnecessary 1) 0 54 * 2 ^ 0)
-others-used w = (used w Necessary 1 0 tt, used w Unnecessary 0 0 tt, used w Unnecessary 1 0 tt)
+  second-used : again Necessary 1 ≡ bits (w Necessary 1) 0 54 * 2 ^ 0
+  second-used = words-again wide tt w Necessary 1 0 tt
+
+  others-used : (again Unnecessary 0 ≡ bits (w Unnecessary 0) 0 54 * 2 ^ 0) × (again Unnecessary 1 ≡ bits (w Unnecessary 1) 0 54 * 2 ^ 0)
+  others-used = (words-again wide tt w Unnecessary 0 0 tt, words-again wide tt w Unnecessary 1 0 tt)

@@ -18,7 +18,9 @@ returns c =
     packs (test-fits most sevenWords tt (b .before .args .goals) ten passed) refl (c .words-of .ensures)
 
 returns-2 : tie.Need-returns-2
-returns-2 c = refuses (λ f. subst T (sym (c .before .all-fit .ensures) ∙ c .if1 .left) (fits-test most sevenWords tt (c .before .before .args .goals) f)) refl refl
+returns-2 c =
+    let failed = sym (c .before .all-fit .ensures) ∙ c .if1 .left in
+    refuses (λ f. subst T failed (fits-test most sevenWords tt (c .before .before .args .goals) f)) refl refl
 
 pub pack-spec : {M : Type 1} → statement M
 pack-spec = tie.close (tie.spec (λ c κs. search needs) (λ c κs. search needs) returns returns-2)
