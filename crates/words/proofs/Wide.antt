@@ -1,4 +1,4 @@
--- Another layout needs no new proof: wide words of twelve goals, with five bits for a number and six sets of nine bits to a word (document 02, §10).
+-- Another layout needs no new proof of its round trips: wide words of twelve goals, five bits a number, six sets of nine bits to a word (document 02, §10).
 -- Assumes nothing.
 use mathlib.Core.Path.{_≡_}
 use mathlib.Core.List.{List, [], _∷_}
