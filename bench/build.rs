@@ -1,4 +1,4 @@
-//! Links the proved library, from where `bench/library` writes it.
+//! Links the proved libraries, from where `bench/library` writes them.
 
 use std::env;
 use std::path::Path;
@@ -7,7 +7,9 @@ fn main() {
     let here = env::var("CARGO_MANIFEST_DIR").expect("set by cargo");
     let folder = Path::new(&here).join("target/library");
     println!("cargo:rustc-link-search=native={}", folder.display());
-    println!("cargo:rustc-link-lib=static=suit_c");
-    let library = folder.join("libsuit_c.a");
-    println!("cargo:rerun-if-changed={}", library.display());
+    for name in ["suit_c", "hand_c"] {
+        println!("cargo:rustc-link-lib=static={name}");
+        let library = folder.join(format!("lib{name}.a"));
+        println!("cargo:rerun-if-changed={}", library.display());
+    }
 }

@@ -1,73 +1,39 @@
-//! Suits that are measured together.
+//! Suits or hands that are measured together.
 
-use std::hint::black_box;
 use std::ops::Range;
 
-use oracle::searched::Found;
-use oracle::suit::GOALS;
-
-use crate::ours::Word;
-use crate::sides::Sides;
-
-/// What the rest of the program needs of a group of any kind of suit.
+/// What the clock and the tables need of a group of any kind. Its sides are numbered in the
+/// order of the columns.
 pub trait Group {
     fn name(&self) -> &'static str;
-    fn suits(&self) -> usize;
 
-    /// What was asked, and both answers, wherever these differ.
+    /// How many suits or hands it has.
+    fn size(&self) -> usize;
+
+    fn sides(&self) -> usize;
+
+    /// What was asked, and the answers, wherever these differ.
     fn differences(&self) -> Vec<String>;
 
-    /// Asks for ten goals of each suit of a part.
-    fn theirs(&self, part: Range<usize>);
-    fn ours(&self, part: Range<usize>);
+    /// Asks a side for each suit or hand of a part.
+    fn ask(&self, side: usize, part: Range<usize>);
 }
 
-pub struct Of<S: Sides> {
-    pub name: &'static str,
-    pub suits: Vec<S::Counts>,
-}
+/// So many differences are printed.
+const PRINTED: usize = 5;
 
-impl<S: Sides> Group for Of<S> {
-    fn name(&self) -> &'static str {
-        self.name
+/// Compares all answers, so many to a suit or hand: times of different answers would say
+/// nothing.
+pub fn agree(groups: &[Box<dyn Group>], answers: usize) -> bool {
+    let different: Vec<String> = groups
+        .iter()
+        .flat_map(|group| group.differences())
+        .collect();
+    for line in different.iter().take(PRINTED) {
+        println!("different: {line}");
     }
-
-    fn suits(&self) -> usize {
-        self.suits.len()
-    }
-
-    fn differences(&self) -> Vec<String> {
-        let mut different = Vec::new();
-        for counts in &self.suits {
-            for goal in GOALS {
-                let (theirs, ours) = (word(S::theirs(counts, goal)), S::ours(counts, goal));
-                if theirs != ours {
-                    let asked = format!("{}, {counts:?}, {goal:?}", self.name);
-                    different.push(format!("{asked}: Rust {theirs:#x}, ours {ours:#x}"));
-                }
-            }
-        }
-        different
-    }
-
-    fn theirs(&self, part: Range<usize>) {
-        for counts in &self.suits[part] {
-            for goal in GOALS {
-                black_box(S::theirs(black_box(counts), goal));
-            }
-        }
-    }
-
-    fn ours(&self, part: Range<usize>) {
-        for counts in &self.suits[part] {
-            for goal in GOALS {
-                black_box(S::ours(black_box(counts), goal));
-            }
-        }
-    }
-}
-
-/// What the Rust source found, as our word: with code and index 0.
-fn word((number, necessary, unnecessary): Found) -> Word {
-    Word::from(number) | Word::from(necessary) << 8 | Word::from(unnecessary) << 24
+    let size: usize = groups.iter().map(|group| group.size()).sum();
+    let compared = answers * size;
+    println!("{compared} answers compared, {} different", different.len());
+    different.is_empty()
 }

@@ -1,5 +1,6 @@
-//! Our search, by the C interface of the proved library.
+//! Ours, by the C interfaces of the proved libraries.
 
+use oracle::hand::question::Question;
 use oracle::suit::Goal;
 
 /// Number in bits 0 to 7, necessary set in 8 to 23, unnecessary set in 24 to 39, index of a
@@ -10,10 +11,19 @@ unsafe extern "C" {
     fn lastavon_ranks(counts: *const u8, length: usize, pairs: u8, melds: u8) -> Word;
     fn lastavon_honours(counts: *const u8, length: usize, pairs: u8, melds: u8) -> Word;
     fn lastavon_ends(counts: *const u8, length: usize, pairs: u8, melds: u8) -> Word;
+
+    fn lastavon_hand(
+        counts: *const u8,
+        counts_len: usize,
+        k: u8,
+        game: u8,
+        out: *mut u64,
+        out_len: usize,
+    ) -> u8;
 }
 
 // Each call lends the counts for its own time, as many as it names, and any bytes will do:
-// a public function takes every input.
+// a public function takes every input. So it is with the room for the answer.
 
 #[inline]
 pub fn ranks(counts: &[u8; 9], goal: Goal) -> Word {
@@ -28,4 +38,16 @@ pub fn honours(counts: &[u8; 7], goal: Goal) -> Word {
 #[inline]
 pub fn ends(counts: &[u8; 9], goal: Goal) -> Word {
     unsafe { lastavon_ends(counts.as_ptr(), 9, goal.pairs, goal.melds) }
+}
+
+/// Gives the code. The answer is written into the three words of `room`, as `Reply` has it;
+/// if there are more or fewer, the code is 8 and nothing is written.
+#[inline]
+pub fn hand(counts: &[u8], k: u8, game: u8, room: &mut [u64]) -> u8 {
+    let (out, out_len) = (room.as_mut_ptr(), room.len());
+    unsafe { lastavon_hand(counts.as_ptr(), counts.len(), k, game, out, out_len) }
+}
+
+pub fn asked(question: &Question, room: &mut [u64]) -> u8 {
+    hand(&question.counts, question.k, question.game, room)
 }

@@ -1,7 +1,7 @@
 //! Where the constructor of the Rust source accepts other hands than document 01.
 
 use crate::bingpai::{Bingpai, BingpaiError, FourPlayer, PlayerRule, ThreePlayer};
-use crate::hand::Hand;
+use crate::hand::question::Question;
 use crate::notation::counts;
 use crate::refusal::{Refusal, refusal};
 
@@ -13,7 +13,7 @@ fn original<R: PlayerRule>(text: &str) -> Result<u8, BingpaiError> {
 
 fn document_01(text: &str, k: u8, game: u8) -> Option<Refusal> {
     let counts = counts(text);
-    refusal(&Hand { counts, k, game })
+    refusal(&Question::new(&counts, k, game))
 }
 
 #[test]

@@ -11,15 +11,15 @@ pub struct Answer {
 }
 
 impl Answer {
-    /// How many bits the necessary set has.
-    pub fn kinds(&self) -> u32 {
-        self.necessary.count_ones()
+    /// How many bits the necessary set has: at most 34.
+    pub fn kinds(&self) -> u8 {
+        self.necessary.count_ones() as u8
     }
 
-    /// The sum of 4 minus the held count over the necessary set.
-    pub fn live(&self, hand: &Hand) -> u32 {
+    /// The sum of 4 minus the held count over the necessary set: at most 136.
+    pub fn live(&self, hand: &Hand) -> u8 {
         let tiles = hand.counts.iter().enumerate();
         let needed = tiles.filter(|(tile, _)| self.necessary >> tile & 1 == 1);
-        needed.map(|(_, &held)| 4 - u32::from(held)).sum()
+        needed.map(|(_, &held)| 4 - held).sum()
     }
 }

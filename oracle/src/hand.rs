@@ -1,4 +1,12 @@
-//! A hand, and the 36 bytes of its record (document 01, "Records").
+//! A hand, and the 36 bytes of its record (document 01, "Records"); below, what can be asked
+//! of the hand entry, counts of a wrong length too.
+
+pub mod asked;
+pub mod question;
+pub mod record;
+
+use crate::suit::Suit;
+use question::Question;
 
 pub const KINDS: usize = 34;
 pub const HAND_RECORD: usize = 36;
@@ -31,8 +39,23 @@ impl Hand {
         record
     }
 
-    /// The number of tiles, in a width that counts of 255 cannot overflow.
-    pub fn total(&self) -> u32 {
-        self.counts.iter().copied().map(u32::from).sum()
+    /// The suits m, p, s and z with their parts of the counts. In game 3 m is 1m/9m.
+    pub fn suits(&self) -> [(Suit, &[u8]); 4] {
+        let m = if self.game == 3 {
+            Suit::Ends
+        } else {
+            Suit::Ranks
+        };
+        [
+            (m, &self.counts[..9]),
+            (Suit::Ranks, &self.counts[9..18]),
+            (Suit::Ranks, &self.counts[18..27]),
+            (Suit::Honours, &self.counts[27..]),
+        ]
+    }
+
+    /// The same, as it is asked of the hand entry.
+    pub fn question(&self) -> Question {
+        Question::new(&self.counts, self.k, self.game)
     }
 }

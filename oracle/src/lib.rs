@@ -25,6 +25,8 @@ pub use build_map::searched;
 
 pub mod standard;
 
+pub mod mapped;
+
 // The harness.
 
 pub mod answer;

@@ -6,11 +6,13 @@ use std::process::ExitCode;
 
 use oracle::compare::{Sizes, compare};
 use oracle::hand::Hand;
+use oracle::hand::question::Question as HandQuestion;
+use oracle::hand::record::answers as hand_answers;
 use oracle::judge::print_counts;
 use oracle::options::Options;
 use oracle::record::answers;
 use oracle::show::show;
-use oracle::suit::question::Question;
+use oracle::suit::question::Question as SuitQuestion;
 use oracle::suit::record::answers as suit_answers;
 use oracle::words::question::Question as WordQuestion;
 use oracle::words::record::answers as word_answers;
@@ -20,6 +22,8 @@ const USAGE: &str = "usage:
   oracle answer < hands > answers
   oracle judge < hands > answers
   oracle show < hands
+  oracle hands < questions > answers
+  oracle judge-hands < questions > answers
   oracle suits < questions > answers
   oracle judge-suits < questions > answers
   oracle words < questions > answers
@@ -27,6 +31,7 @@ const USAGE: &str = "usage:
   oracle targets
   oracle make table > hands
   oracle make hands [--seed S] [--count N] [--broken BYTES] > hands
+  oracle make questions [--seed S] [--count N] > questions
   oracle make suits [--seed S] [--count N] > questions
   oracle make words [--seed S] [--count N] > questions";
 
@@ -49,6 +54,8 @@ fn run(command: &str, mut words: impl Iterator<Item = String>) -> Result<bool, S
         "answer" => through(words, |input| Ok(answers(input, merged::answer))),
         "judge" => through(words, |input| Ok(answers(input, judge::answer))),
         "show" => through(words, |input| Ok(show(input).into_bytes())),
+        "hands" => through(words, |input| hand_answers(input, merged::answer)),
+        "judge-hands" => through(words, |input| hand_answers(input, judge::answer)),
         "suits" => through(words, |input| suit_answers(input, searched::answer)),
         "judge-suits" => through(words, |input| suit_answers(input, judge::suit_answer)),
         "words" => through(words, word_answers),
@@ -94,6 +101,7 @@ fn run_make(what: &str, mut options: Options) -> Result<bool, String> {
     let bytes = match what {
         "table" => make::table().iter().flat_map(Hand::record).collect(),
         "hands" => make_hands(&mut options)?,
+        "questions" => make_questions(&mut options)?,
         "suits" => make_suits(&mut options)?,
         "words" => make_words(&mut options)?,
         other => return Err(format!("not understood: make {other}")),
@@ -115,11 +123,18 @@ fn make_hands(options: &mut Options) -> Result<Vec<u8>, String> {
     Ok(bytes)
 }
 
+fn make_questions(options: &mut Options) -> Result<Vec<u8>, String> {
+    let seed = options.number("--seed", 1)?;
+    let count = options.number("--count", 2_200)?;
+    let questions = make::questions::questions(seed, count as usize);
+    Ok(questions.iter().flat_map(HandQuestion::record).collect())
+}
+
 fn make_suits(options: &mut Options) -> Result<Vec<u8>, String> {
     let seed = options.number("--seed", 1)?;
     let count = options.number("--count", 1_500)?;
     let questions = make::suits::suits(seed, count as usize);
-    Ok(questions.iter().flat_map(Question::record).collect())
+    Ok(questions.iter().flat_map(SuitQuestion::record).collect())
 }
 
 fn make_words(options: &mut Options) -> Result<Vec<u8>, String> {

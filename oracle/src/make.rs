@@ -1,8 +1,9 @@
-//! The seeded generator of hand records, and below it those of suit questions and of word
-//! questions. The same seed and count give the same hands.
+//! The seeded generator of hand records, and below it those of hand questions, suit questions
+//! and word questions. The same seed and count give the same hands.
 
 mod corners;
 mod deal;
+pub mod questions;
 mod sorts;
 mod spoil;
 pub mod suits;
@@ -55,11 +56,13 @@ mod tests {
     fn every_number_a_record_can_have_is_made() {
         let hands = hands(1, 2_000);
         for number in [1, 2, 4, 5, 6] {
-            let refused = hands.iter().filter_map(refusal);
+            let refused = hands.iter().filter_map(|hand| refusal(&hand.question()));
             assert!(refused.map(|reason| reason.number()).any(|n| n == number));
         }
         for (k, game) in [(0, 3), (4, 3), (0, 4), (4, 4)] {
-            let accepted = hands.iter().filter(|hand| refusal(hand).is_none());
+            let accepted = hands
+                .iter()
+                .filter(|hand| refusal(&hand.question()).is_none());
             assert!(
                 accepted
                     .filter(|hand| (hand.k, hand.game) == (k, game))
@@ -75,7 +78,7 @@ mod tests {
         for _ in 0..2_000 {
             for game in [3, 4] {
                 let hand = accepted(&mut random, game);
-                assert_eq!(refusal(&hand), None, "{hand:?}");
+                assert_eq!(refusal(&hand.question()), None, "{hand:?}");
             }
         }
     }

@@ -6,7 +6,7 @@ use crate::hand::Hand;
 use crate::standard::necessary_tiles::calculate_necessary_tiles;
 use crate::standard::replacement_number::calculate_replacement_number;
 use crate::standard::unnecessary_tiles::calculate_unnecessary_tiles;
-use crate::tile::TileCounts;
+use crate::tile::{TileCounts, TileFlags};
 
 /// The hand must be one that is not refused.
 pub fn answer(hand: &Hand) -> Answer {
@@ -17,14 +17,23 @@ pub fn answer(hand: &Hand) -> Answer {
     }
 }
 
-/// Each merge finds the number for itself; they must agree.
 fn merged<R: PlayerRule>(counts: &TileCounts, k: u8) -> Answer {
     let bingpai = Bingpai::<R>::with_melds(counts, k);
-    let number = calculate_replacement_number(&bingpai);
-    let (number_beside_necessary, necessary) = calculate_necessary_tiles(&bingpai);
-    let (number_beside_unnecessary, unnecessary) = calculate_unnecessary_tiles(&bingpai);
-    assert_eq!(number, number_beside_necessary);
-    assert_eq!(number, number_beside_unnecessary);
+    joined(
+        calculate_replacement_number(&bingpai),
+        calculate_necessary_tiles(&bingpai),
+        calculate_unnecessary_tiles(&bingpai),
+    )
+}
+
+/// Each merge finds the number for itself; they must agree.
+pub fn joined(
+    number: u8,
+    (beside_necessary, necessary): (u8, TileFlags),
+    (beside_unnecessary, unnecessary): (u8, TileFlags),
+) -> Answer {
+    assert_eq!(number, beside_necessary);
+    assert_eq!(number, beside_unnecessary);
     Answer {
         number,
         necessary,

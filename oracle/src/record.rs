@@ -1,13 +1,11 @@
 //! Hand records in, answer records out (document 01, "Records").
 
 use crate::answer::Answer;
+use crate::hand::asked::{Asked, answered};
 use crate::hand::{HAND_RECORD, Hand};
-use crate::refusal::{Refusal, refusal};
+use crate::refusal::Refusal;
 
 pub const ANSWER_RECORD: usize = 16;
-
-/// Who is asked for the answer of an accepted hand.
-pub type Asked = fn(&Hand) -> Answer;
 
 /// The answer records for a whole input, a broken last piece included.
 pub fn answers(input: &[u8], asked: Asked) -> Vec<u8> {
@@ -26,11 +24,8 @@ fn answer_record(piece: &[u8], asked: Asked) -> [u8; ANSWER_RECORD] {
 
 /// The hand and its answer, or the reason there is none.
 pub fn answer_piece(piece: &[u8], asked: Asked) -> Result<(Hand, Answer), Refusal> {
-    let hand = Hand::read(piece).ok_or(Refusal::Length)?;
-    match refusal(&hand) {
-        Some(reason) => Err(reason),
-        None => Ok((hand, asked(&hand))),
-    }
+    let hand = Hand::read(piece).ok_or(Refusal::Broken)?;
+    answered(&hand.question(), asked)
 }
 
 fn write_answer(hand: &Hand, answer: &Answer) -> [u8; ANSWER_RECORD] {
@@ -38,8 +33,8 @@ fn write_answer(hand: &Hand, answer: &Answer) -> [u8; ANSWER_RECORD] {
     record[1] = answer.number;
     record[2..7].copy_from_slice(&answer.necessary.to_le_bytes()[..5]);
     record[7..12].copy_from_slice(&answer.unnecessary.to_le_bytes()[..5]);
-    record[12] = byte(answer.kinds());
-    record[13] = byte(answer.live(hand));
+    record[12] = answer.kinds();
+    record[13] = answer.live(hand);
     record
 }
 
@@ -47,11 +42,6 @@ fn write_refusal(reason: Refusal) -> [u8; ANSWER_RECORD] {
     let mut record = [0; ANSWER_RECORD];
     record[0] = reason.number();
     record
-}
-
-/// Kinds are at most 34 and live tiles at most 136.
-fn byte(value: u32) -> u8 {
-    value.try_into().expect("fits a byte")
 }
 
 #[cfg(test)]

@@ -2,6 +2,7 @@
 //! unpacking, and in place of the hashes and maps stand-ins that search.
 
 use crate::build_map::{MapValue, pack_values};
+use crate::hand::Hand;
 use crate::suit::Suit;
 use crate::words::{Goals, Words};
 
@@ -44,7 +45,7 @@ mod wanzi_19_table;
 
 pub mod published;
 
-pub use lookup::forget;
+pub use lookup::{forget, remember};
 
 /// The words of a suit, searched afresh. N is 9 for nine ranks, 7 for honours, 2 for 1m/9m.
 pub fn search<const N: usize>(counts: &[u8; N]) -> Words {
@@ -58,6 +59,11 @@ pub fn search_suit(suit: Suit, counts: &[u8]) -> Words {
         Suit::Honours => search(counts.first_chunk::<7>().expect("seven counts")),
         Suit::Ends => search(&[counts[0], counts[8]]),
     }
+}
+
+/// The words of a hand's suits, each of the four searched afresh.
+pub fn search_hand(hand: &Hand) -> [Words; 4] {
+    hand.suits().map(|(suit, counts)| search_suit(suit, counts))
 }
 
 /// The ten goals that the Rust source reads from the words.

@@ -20,8 +20,13 @@ use Rattle.suit.specs.Task.{taskOf}
 use Rattle.suit.specs.Ready.{Ready}
 use Rattle.suit.specs.declared.task.Task.{Task}
 use Rattle.suit.specs.declared.aim.Aim.{Aim}
-use Rattle.suit.proofs.Faults.{kinds-most}
 use Rattle.suit.proofs.Stepped.{stepped}
+
+-- no suit has more than nine kinds
+pub kinds-most : (s : Suit) → boardOf s .kinds ≤ 9
+kinds-most Ranks = omega arith
+kinds-most Honours = omega arith
+kinds-most Ends = omega arith
 
 -- nothing laid, p pairs and m melds to lay
 abbrev pub nothingLaid : ℕ → ℕ → Aim

@@ -1,5 +1,4 @@
 mod Begin
 mod Bit
-mod Faults
 mod Stepped
 mod Turn

@@ -3,4 +3,3 @@ pub mod Sets
 pub mod Task
 pub mod Aim
 pub mod Ready
-pub mod Check

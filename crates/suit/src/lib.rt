@@ -1,6 +1,5 @@
 // One suit (01 "One suit"): its answer for a goal, and for the ten goals at once.
 mod aim;
-mod check;
 mod choice;
 pub mod entry;
 mod join;

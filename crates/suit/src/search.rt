@@ -15,7 +15,6 @@ use crate::aim::is_worth;
 use crate::aim::view_from;
 use crate::aim::whole_lack;
 use crate::aim::wide;
-use crate::check::total;
 use crate::choice;
 use crate::choice::choice_of;
 use crate::join::joined;
@@ -23,6 +22,7 @@ use crate::task::Task;
 use crate::task::choices_at;
 use crate::task::has_room;
 use crate::task::task_of;
+use checks::total::total;
 use tile::found::Found;
 use tile::one_suit::Suit;
 

@@ -6,8 +6,8 @@ use Prim.Native.Nat.{ℕ, _/_, _%_, _<_}
 use lib.ListN.{length, getD}
 use Rattle.tile.specs.Suit.{blank}
 use Rattle.tile.specs.declared.found.Found.{Found}
-use Rattle.tile.specs.declared.one_suit.Checked.{Checked}
-use Rattle.tile.specs.declared.one_suit.Checked.the-variants.{Fine, Faulty}
+use Rattle.tile.specs.declared.refusal.Checked.{Checked}
+use Rattle.tile.specs.declared.refusal.Checked.the-variants.{Fine, Faulty}
 use Rattle.tile.specs.declared.one_suit.SuitAnswer.{SuitAnswer}
 use Rattle.tile.specs.declared.one_suit.SuitAnswer.the-variants.{Answered, Refused}
 use Rattle.tile.specs.declared.one_suit.SuitGoals.{SuitGoals}

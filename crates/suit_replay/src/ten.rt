@@ -3,9 +3,9 @@ ghost use mathlib.Core.Path.{_≡_};
 ghost use Prim.Native.Nat.{_<_};
 ghost use Rattle.suit_replay.specs.Ten.{goalRecord, Ten};
 use crate::record::record_of;
-use tile::one_suit::Checked;
 use tile::one_suit::SuitAnswer;
 use tile::one_suit::SuitGoals;
+use tile::refusal::Checked;
 
 fn goal_record(all: SuitGoals, goal: usize) -> [u8; 8]
     requires { ⌜ goal < 10 ⌝ }

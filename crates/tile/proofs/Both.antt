@@ -18,11 +18,11 @@ use Rattle.tile.proofs.Counts.{more-most, zeros-at}
 use Rattle.tile.proofs.Built.{Piece, put, Lies, pairsWith, meldsWith, built-ind}
 use Rattle.tile.proofs.Built.Piece.{two, three, run}
 
-abbrev hand : List ℕ
+abbrev pub hand : List ℕ
 hand = 1 ∷ 0 ∷ 0 ∷ 0 ∷ 0 ∷ 0 ∷ 0 ∷ 0 ∷ 1 ∷ replicate 25 0
 
 -- bits 0 and 8
-abbrev both : ℕ
+abbrev pub both : ℕ
 both = 0x101
 
 -- ---- the targets for no meld are the pairs

@@ -14,7 +14,7 @@ use Rattle.tile.proofs.Size.{target-answer}
 
 -- ---- 123m 456p 789s 111z 22z, k = 4, game 4
 
-abbrev finished : List ℕ
+abbrev pub finished : List ℕ
 finished =
     1 ∷ 1 ∷ 1 ∷ 0 ∷ 0 ∷ 0 ∷ 0 ∷ 0 ∷ 0 ∷ 0 ∷ 0 ∷ 0 ∷ 1 ∷ 1 ∷ 1 ∷ 0 ∷ 0 ∷ 0 ∷ 0 ∷ 0 ∷ 0 ∷ 0 ∷ 0 ∷ 0 ∷ 1 ∷ 1 ∷ 1 ∷ 3 ∷ 2 ∷ 0 ∷ 0 ∷ 0 ∷ 0 ∷ 0 ∷ []
 

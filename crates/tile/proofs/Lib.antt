@@ -3,11 +3,14 @@ pub mod Tests
 pub mod Filling
 pub mod Counts
 pub mod Sets
+pub mod Tally
 pub mod Append
 pub mod Built
 pub mod Beside
+pub mod Parts
 -- theorems about the definitions
 pub mod Unique
+pub mod Answers
 pub mod Size
 pub mod Suit
 pub mod Promise
@@ -16,5 +19,7 @@ pub mod Whole
 pub mod Places
 pub mod Narrow
 pub mod Order
+pub mod Hand
 mod Example
 mod Both
+mod Rows

@@ -99,6 +99,30 @@ in-row (a ∷ bs) b h p m t =
       λ x. target-whole side (with-rest (λ p m t. rest p m t .1) x),
     )
 
+-- a board that is two boards in a row is the one beside the other
+pub row-beside : (a c b : Board) → T (inRow (a ∷ c ∷ []) b) → Beside a c b
+row-beside a c b h =
+    record {
+      all = omega (arith, x .all, y .all, eqb→eq (b .kinds - a .kinds - c .kinds) 0 (and-second (begins c d) (inRow [] (from (c .kinds) d)) rest));
+      held-first = x .held-first;
+      held-after = y .held-first;
+      starts-first = x .starts-first;
+      starts-after = y .starts-first;
+      apart = x .apart;
+    }
+  where
+    d : Board
+    d = from (a .kinds) b
+
+    rest : T (inRow (c ∷ []) d)
+    rest = and-second (begins a b) (inRow (c ∷ []) d) h
+
+    x : Beside a d b
+    x = begins-beside a b (and-first (begins a b) (inRow (c ∷ []) d) h)
+
+    y : Beside c (from (c .kinds) d) d
+    y = begins-beside c d (and-first (begins c d) (inRow [] (from (c .kinds) d)) rest)
+
 -- ---- the two games
 
 pub whole-row : (three-player : Bool) (p m : ℕ) (t : List ℕ) → Target (wholeOf three-player) p m t ↔ Row (suitsOf three-player) p m t

@@ -9,8 +9,8 @@ use Rattle.tile.specs.Refusal.{First, SuitFault, mostTiles}
 use Rattle.tile.specs.Suit.{blank, Right}
 use Rattle.tile.specs.declared.found.Found.{Found}
 use Rattle.tile.specs.declared.refusal.Reason.{Reason}
-use Rattle.tile.specs.declared.one_suit.Checked.{Checked}
-use Rattle.tile.specs.declared.one_suit.Checked.the-variants.{Fine, Faulty}
+use Rattle.tile.specs.declared.refusal.Checked.{Checked}
+use Rattle.tile.specs.declared.refusal.Checked.the-variants.{Fine, Faulty}
 
 -- r has the right answer for each of the ten goals
 pub record AllRight (b : Board) (h : List ℕ) (r : List Found) : Type 0 where

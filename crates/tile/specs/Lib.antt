@@ -13,3 +13,5 @@ pub mod Refusal
 pub mod Suit
 pub mod Goals
 pub mod Suits
+pub mod Tally
+pub mod Hand

@@ -1,4 +1,4 @@
--- When a suit is refused, and with which number (01 "Refusal numbers").
+-- When a suit or a hand is refused, and with which number (01 "Refusal numbers").
 -- Assumes nothing.
 use mathlib.Core.Path.{_≡_}
 use mathlib.Core.Logic.{_⊎_}
@@ -11,6 +11,8 @@ use Rattle.tile.specs.Count.{copies, sumTo}
 use Rattle.tile.specs.Board.{Board}
 use Rattle.tile.specs.declared.refusal.Reason.{Reason}
 use Rattle.tile.specs.declared.refusal.Reason.the-variants.{Game, Goal, Length, Over, Sum, Barred}
+use Rattle.tile.specs.declared.refusal.Checked.{Checked}
+use Rattle.tile.specs.declared.refusal.Checked.the-variants.{Fine, Faulty}
 
 -- 01's number of each reason
 abbrev pub codeOf : Reason → ℕ
@@ -40,6 +42,11 @@ pub record First (Fault : Reason → Type 0) (r : Reason) : Type 0 where
   pub holds : Fault r
   pub none-before : (q : Reason) → codeOf q < codeOf r → Fault q → ⊥
 
+-- what a check of these conditions finds: the first that holds, or that none does
+abbrev pub CheckedFor : (Reason → Type 0) → Checked → Type 0
+CheckedFor Fault (Faulty q) = First Fault q
+CheckedFor Fault Fine = (q : Reason) → Fault q → ⊥
+
 -- the most melds of a goal, and the most tiles of a hand, which is also the starting bound
 abbrev pub mostMelds : ℕ
 mostMelds = 4
@@ -47,11 +54,16 @@ mostMelds = 4
 abbrev pub mostTiles : ℕ
 mostTiles = 14
 
--- the condition of each reason, for the counts h of a suit on the board b and a goal of p pairs and m melds; a suit has no game
+-- the condition of each reason, for counts h on a board b, a suit's or a whole game's, and a goal of p pairs and m melds;
+-- `unknown` says that there is no such game
+abbrev pub Fault : Type 0 → Board → ℕ → ℕ → List ℕ → Reason → Type 0
+Fault unknown b p m h Game = unknown
+Fault unknown b p m h Goal = (mostMelds < m) ⊎ (1 < p)
+Fault unknown b p m h Length = length h ≡ b .kinds → ⊥
+Fault unknown b p m h (Over i) = Lowest (λ j. copies < getD h j 0) i
+Fault unknown b p m h Sum = mostTiles < sumTo (length h) h
+Fault unknown b p m h (Barred i) = Lowest (λ j. T (not (b .held j)) × (0 < getD h j 0)) i
+
+-- of a suit: it has no game
 abbrev pub SuitFault : Board → ℕ → ℕ → List ℕ → Reason → Type 0
-SuitFault b p m h Game = ⊥
-SuitFault b p m h Goal = (mostMelds < m) ⊎ (1 < p)
-SuitFault b p m h Length = length h ≡ b .kinds → ⊥
-SuitFault b p m h (Over i) = Lowest (λ j. copies < getD h j 0) i
-SuitFault b p m h Sum = mostTiles < sumTo (length h) h
-SuitFault b p m h (Barred i) = Lowest (λ j. T (not (b .held j)) × (0 < getD h j 0)) i
+SuitFault b p m h q = Fault ⊥ b p m h q

@@ -25,6 +25,8 @@ fn may_hold(three_player: bool, tile: usize) -> bool
 }
 
 impl FourPlayer {
+    pub const GAME: u8 = 4;
+
     pub const IS_THREE_PLAYER: bool = false;
 
     pub fn may_hold(tile: usize) -> bool
@@ -35,6 +37,8 @@ impl FourPlayer {
 }
 
 impl ThreePlayer {
+    pub const GAME: u8 = 3;
+
     pub const IS_THREE_PLAYER: bool = true;
 
     pub fn may_hold(tile: usize) -> bool

@@ -2,6 +2,8 @@
 // What the engine must answer is defined in specs/.
 pub mod found;
 pub mod games;
+pub mod one_hand;
 pub mod one_suit;
 pub mod refusal;
 pub mod suits;
+pub mod tiles;

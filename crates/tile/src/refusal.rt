@@ -11,6 +11,12 @@ pub enum Reason {
     Barred(usize),
 }
 
+// Whether a hand or a suit is answered.
+pub enum Checked {
+    Fine,
+    Faulty(Reason),
+}
+
 // 01's number of a reason.
 pub fn code(reason: Reason) -> u8
     ensures { λ r. ⌜ r ≡ codeOf reason ⌝ }

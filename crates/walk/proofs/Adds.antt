@@ -17,7 +17,8 @@ use Rattle.walk.specs.Choice.{pairsOf, meldsOf}
 use Rattle.walk.specs.Walk.{choicesAt, fits, laid, upTo, tried, walk}
 use Rattle.walk.specs.Leaf.{Leaf}
 use Rattle.walk.proofs.Leaf.{leaf-grows}
-use Rattle.walk.proofs.Best.{Or, Best, best-same, best-skip, best-join}
+use Rattle.tile.proofs.Answers.{Or}
+use Rattle.walk.proofs.Best.{Best, best-same, best-skip, best-join}
 
 module _ (n : ℕ) (h : List ℕ) (bound : ℕ) where
   -- f adds the targets of which L holds to whatever was seen before

@@ -6,45 +6,21 @@ use mathlib.Core.List.{List}
 use Prim.Native.Nat.{ℕ, _≤_, _<_}
 use native.Mathlib.Omega.{arith}
 use lib.ListN.{getD}
-use lib.Bits.{bitOr}
 use Rattle.tile.specs.Count.{lackTo}
 use Rattle.tile.specs.Answer.{Exactly, Answer, Necessary, Unnecessary}
 use Rattle.tile.specs.Suit.{unfound}
 use Rattle.tile.specs.declared.found.Found.{Found}
 use Rattle.tile.proofs.Tests.{at-most-or-over}
+use Rattle.tile.proofs.Answers.{Or, Shown, More, Fewer, shown-keep, shown-or}
 use Rattle.tile.proofs.Sense.{one-target}
-use Rattle.tile.proofs.Sets.{exactly-as, exactly-none, exactly-beyond, exactly-or}
+use Rattle.tile.proofs.Sets.{exactly-as, exactly-none, exactly-beyond}
 use Rattle.walk.specs.Walk.{alone, join}
 use Rattle.walk.proofs.Steps.{join-less, join-equal, join-more}
 
--- targets of either kind
-abbrev pub Or : (List ℕ → Type 0) → (List ℕ → Type 0) → List ℕ → Type 0
-Or S L t = S t ⊎ L t
-
--- The kinds i of which D i t holds in some target t that lacks x: both sets of an answer are of this form.
-module _ (n : ℕ) (h : List ℕ) (D : ℕ → List ℕ → Type 0) where
-  abbrev Shown : (List ℕ → Type 0) → ℕ → ℕ → Type 0
-  Shown S x i = (t : List ℕ) × S t × (lackTo n t h ≡ x) × D i t
-
-  -- targets that lack more show nothing, and so they may come
-  shown-keep : {S L : List ℕ → Type 0} {x s : ℕ} → ((t : List ℕ) → S t → L t) → ((t : List ℕ) → L t → S t ⊎ (x < lackTo n t h))
-      → Exactly n s (Shown S x) → Exactly n s (Shown L x)
-  shown-keep to fro =
-      exactly-as (λ i (t, k, e, d). (t, to t k, e, d)) (λ i (t, k, e, d). ⊎-elim (λ q. (t, q, e, d)) (λ more. absurd (omega arith)) (fro t k))
-
-  shown-one : {x s : ℕ} (t : List ℕ) → lackTo n t h ≡ x → Exactly n s (λ i. D i t) → Exactly n s (Shown (λ u. u ≡ t) x)
-  shown-one t e = exactly-as (λ i d. (t, refl, e, d)) (λ i (u, k, q, d). subst (D i) k d)
-
-  shown-or : {S L : List ℕ → Type 0} {x s r : ℕ} → Exactly n s (Shown S x) → Exactly n r (Shown L x) → Exactly n (bitOr s r) (Shown (Or S L) x)
-  shown-or a b =
-      exactly-as (λ i. ⊎-elim (λ (t, k, e, d). (t, inl k, e, d)) (λ (t, k, e, d). (t, inr k, e, d)))
-      (λ i (t, k, e, d). ⊎-map (λ g. (t, g, e, d)) (λ g. (t, g, e, d)) k) (exactly-or a b)
-
-abbrev More : List ℕ → ℕ → List ℕ → Type 0
-More h i t = getD h i 0 < getD t i 0
-
-abbrev Fewer : List ℕ → ℕ → List ℕ → Type 0
-Fewer h i t = getD t i 0 < getD h i 0
+-- what one target shows is what is shown where it alone is a target
+shown-one : {n : ℕ} (h : List ℕ) (R : ℕ → ℕ → Type 0) {x s : ℕ} (t : List ℕ) → lackTo n t h ≡ x → Exactly n s (λ i. R (getD h i 0) (getD t i 0))
+    → Exactly n s (Shown R n (λ u. u ≡ t) h x)
+shown-one h R t e = exactly-as (λ i d. (t, refl, e, d)) (λ i (u, k, q, d). subst (λ (v : List ℕ). R (getD h i 0) (getD v i 0)) k d)
 
 -- r is right for the targets of which S holds; or it is still what the search starts with, and none of them lacks less than the bound
 pub record Best (n : ℕ) (h : List ℕ) (bound : ℕ) (S : List ℕ → Type 0) (r : Found) : Type 0 where
@@ -70,8 +46,8 @@ module _ {n : ℕ} {h : List ℕ} {bound : ℕ} where
       record {
         some = ⊎-map (λ e. e) (λ (t, k, e). (t, to t k, e)) (o .some);
         none-fewer = λ t k. ⊎-elim (o .none-fewer t) (λ more. omega arith) (fro t k);
-        necessary = shown-keep n h (More h) to fro (o .necessary);
-        unnecessary = shown-keep n h (Fewer h) to fro (o .unnecessary);
+        necessary = shown-keep n h More to fro (o .necessary);
+        unnecessary = shown-keep n h Fewer to fro (o .unnecessary);
       }
 
   pub best-same : {S L : List ℕ → Type 0} {r : Found} → ((t : List ℕ) → S t → L t) → ((t : List ℕ) → L t → S t)
@@ -107,8 +83,8 @@ module _ {n : ℕ} {h : List ℕ} {bound : ℕ} where
           (record {
             some = inr (t, inr refl, e);
             none-fewer = λ u. ⊎-elim (o .none-fewer u) (λ k. rw k (omega arith));
-            necessary = shown-or n h (More h) (o .necessary) (shown-one n h (More h) t e (exactly-beyond n t h));
-            unnecessary = shown-or n h (Fewer h) (o .unnecessary) (shown-one n h (Fewer h) t e (exactly-beyond n h t));
+            necessary = shown-or n h More (o .necessary) (shown-one h More t e (exactly-beyond n t h));
+            unnecessary = shown-or n h Fewer (o .unnecessary) (shown-one h Fewer t e (exactly-beyond n h t));
           })
 
       more : r .number < lackTo n t h → Best n h bound (Or S (λ u. u ≡ t)) (join n h t r)

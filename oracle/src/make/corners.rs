@@ -108,7 +108,7 @@ fn faults_together() -> Vec<Hand> {
     hands
 }
 
-fn complete() -> Vec<Hand> {
+pub(super) fn complete() -> Vec<Hand> {
     everywhere(&[
         counts("11z"),
         counts("999p11z"),
@@ -124,7 +124,7 @@ fn complete() -> Vec<Hand> {
 }
 
 /// Four each of three neighbouring kinds and two of the next, from every index on.
-fn four_of_a_kind() -> Vec<Hand> {
+pub(super) fn four_of_a_kind() -> Vec<Hand> {
     let of = |first: usize| {
         let mut counts = NONE;
         for (kind, count) in [4, 4, 4, 2].into_iter().enumerate() {
@@ -136,7 +136,7 @@ fn four_of_a_kind() -> Vec<Hand> {
 }
 
 /// Seven kinds twice each, at every distance from one another.
-fn pairs() -> Vec<Hand> {
+pub(super) fn pairs() -> Vec<Hand> {
     let of = |step: usize| {
         let mut counts = NONE;
         for pair in 0..7 {

@@ -38,7 +38,7 @@ pub fn suit(random: &mut Random) -> [u8; 9] {
     *counts.first_chunk().expect("nine of 34")
 }
 
-fn board(game: u8) -> &'static Board {
+pub(super) fn board(game: u8) -> &'static Board {
     if game == 3 { &WHOLE_THREE } else { &WHOLE_FOUR }
 }
 
@@ -53,13 +53,13 @@ pub(super) fn of(random: &mut Random, kinds: &[usize], tiles: usize) -> [u8; 34]
 }
 
 /// As many tiles as k asks for, before or after a draw.
-fn dealt(random: &mut Random, board: &Board, k: usize) -> [u8; 34] {
+pub(super) fn dealt(random: &mut Random, board: &Board, k: usize) -> [u8; 34] {
     let tiles = 3 * k + 1 + random.below(2);
     of(random, &kinds(board), tiles)
 }
 
 /// Any number of tiles, whatever k is.
-fn loose(random: &mut Random, board: &Board) -> [u8; 34] {
+pub(super) fn loose(random: &mut Random, board: &Board) -> [u8; 34] {
     let tiles = random.below(15);
     of(random, &kinds(board), tiles)
 }
@@ -75,7 +75,7 @@ pub(super) fn drifting(random: &mut Random, board: &Board, k: usize) -> [u8; 34]
 }
 
 /// Some target for k melds: chosen anew until no count is over 4.
-fn complete(random: &mut Random, board: &Board, k: usize) -> [u8; 34] {
+pub(super) fn complete(random: &mut Random, board: &Board, k: usize) -> [u8; 34] {
     let (pairs, melds) = (board.pairs(), board.melds());
     loop {
         let mut counts = [0; 34];
@@ -91,7 +91,7 @@ fn complete(random: &mut Random, board: &Board, k: usize) -> [u8; 34] {
 }
 
 /// Tiles of m, p, s or z alone.
-fn from_one_suit(random: &mut Random, board: &Board) -> [u8; 34] {
+pub(super) fn from_one_suit(random: &mut Random, board: &Board) -> [u8; 34] {
     let first = 9 * random.below(4);
     let suit = first..first + 9;
     let kinds: Vec<usize> = kinds(board)
@@ -115,13 +115,13 @@ pub(super) fn of_few_kinds(random: &mut Random, board: &Board, least: usize) -> 
 }
 
 /// Kinds held twice; one that was drawn again is held four times.
-fn pairs(random: &mut Random, board: &Board) -> [u8; 34] {
+pub(super) fn pairs(random: &mut Random, board: &Board) -> [u8; 34] {
     let tiles = 1 + random.below(7);
     of(random, &kinds(board), tiles).map(|count| count.min(2) * 2)
 }
 
 /// Ones, nines and honours.
-fn outer(random: &mut Random, board: &Board) -> [u8; 34] {
+pub(super) fn outer(random: &mut Random, board: &Board) -> [u8; 34] {
     let mut kinds = kinds(board);
     kinds.retain(|&kind| kind >= 27 || kind % 9 % 8 == 0);
     let tiles = 9 + random.below(6);

@@ -4,7 +4,7 @@ mod cases;
 mod ends;
 pub(super) mod extremes;
 mod faults;
-mod fill;
+pub(super) mod fill;
 mod refused;
 pub mod sorts;
 

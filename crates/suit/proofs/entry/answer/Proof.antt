@@ -2,22 +2,32 @@
 -- Assumes nothing.
 use native.Mathlib.Omega.{arith}
 use borrow.Author.Needs.{needs}
-use Rattle.suit.proofs.Faults.{fine}
+use Rattle.checks.proofs.Fine.{fine}
 use Rattle.suit.proofs.entry.answer.Statement.{statement}
 use Rattle.suit.proofs.entry.answer.Tie as tie
 
 found-for-requires : tie.Need-found-for-requires
 found-for-requires c κs =
-    let s = fine _ _ _ _ (rw (c .enum-told .given .1) at (c .before .before .check .ensures)) in
-    (s .0, s .1, omega arith, omega arith, omega arith)
+    let s = c .before .before in
+    let f = fine (rw (s .before .tiles-of .ensures, c .enum-told .given .1) at (s .check .ensures)) in
+    (f .long, f .few, omega arith, omega arith, omega arith)
 
 returns : tie.Need-returns
-returns c = rw (c .before .checked .given .1) at (c .before .before .before .check .ensures)
+returns c = let s = c .before .before .before in rw (s .before .tiles-of .ensures, c .before .checked .given .1) at (s .check .ensures)
 
 returns-2 : tie.Need-returns-2
-returns-2 c = (rw (c .before .enum-told .given .1) at (c .before .before .before .check .ensures), c .found-for .ensures)
+returns-2 c =
+    let s = c .before .before .before in
+    (rw (s .before .tiles-of .ensures, c .before .enum-told .given .1) at (s .check .ensures), c .found-for .ensures)
 
 pub answer-spec : {M : Type 1} → statement M
 answer-spec =
     tie.close
-    (tie.spec (λ c κs. search needs) (λ c. search needs) (λ c. search needs) found-for-requires returns returns-2)
+    (tie.spec
+    (λ c κs. search needs)
+    (λ c κs. search needs)
+    (λ c. search needs)
+    (λ c. search needs)
+    found-for-requires
+    returns
+    returns-2)

@@ -1,0 +1,9 @@
+-- For the code of this crate.
+mod Few
+mod Barred
+mod Faults
+mod Looked
+-- For callers.
+pub mod Fine
+pub mod Game
+pub mod Sum

@@ -1,0 +1,2 @@
+mod Cut
+mod Shares

@@ -1,0 +1,24 @@
+-- `hand::entry::answer` meets its contract: a hand that is not refused has what the search requires.
+-- Assumes nothing.
+use borrow.Author.Needs.{needs}
+use Rattle.tile.specs.Hand.{tilesOf}
+use Rattle.checks.proofs.Game.{same}
+use Rattle.hand.proofs.entry.answer.Statement.{statement}
+use Rattle.hand.proofs.entry.answer.Tie as tie
+
+found-for-requires : tie.Need-found-for-requires
+found-for-requires c κs =
+    let none = rw (c .enum-told .given .1) at (c .before .before .check .ensures) in
+    let s = c .before .before .before .before .args in
+    λ q x. none q (same (tilesOf (s .game)) 1 (s .k) (s .counts .now) absurd q x)
+
+returns : tie.Need-returns
+returns c = rw (c .before .checked .given .1) at (c .before .before .before .check .ensures)
+
+returns-2 : tie.Need-returns-2
+returns-2 c = (rw (c .before .enum-told .given .1) at (c .before .before .before .check .ensures), c .found-for .ensures)
+
+pub answer-spec : {M : Type 1} → statement M
+answer-spec =
+    tie.close
+    (tie.spec (λ c κs. search needs) (λ c. search needs) (λ c. search needs) found-for-requires returns returns-2)

@@ -1,0 +1,30 @@
+// The four suits' answers, merged into the hand's (01 "Merge").
+ghost use mathlib.Core.Path.{_≡_};
+ghost use Prim.Native.Nat.{_≤_};
+ghost use Rattle.merge.specs.Merge.{handMerged};
+ghost use Rattle.merge.specs.Entry.{Low};
+use crate::entry_of::entry_of;
+use crate::parts::goal_of;
+use crate::parts::merge;
+use merge::Merged;
+use tile::found::Found;
+use tile::suits::SuitM;
+use tile::suits::SuitP;
+use tile::suits::SuitS;
+use tile::suits::SuitZ;
+
+// In the order m, p, s, z. Of the last merge one goal is asked for: a pair and k melds.
+pub(crate) fn whole(
+    m: [Found; 10],
+    p: [Found; 10],
+    s: [Found; 10],
+    z: [Found; 10],
+    k: usize,
+) -> Merged
+    requires { ⌜ (k ≤ 4) × Low 14 m × Low 14 p × Low 14 s × Low 14 z ⌝ }
+    ensures { λ r. ⌜ r ≡ handMerged m p s z k ⌝ }
+{
+    let mp = merge(entry_of(m, SuitM::OFFSET), entry_of(p, SuitP::OFFSET));
+    let mps = merge(mp, entry_of(s, SuitS::OFFSET));
+    goal_of(mps, entry_of(z, SuitZ::OFFSET), 1, k)
+}

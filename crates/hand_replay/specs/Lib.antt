@@ -1,0 +1,3 @@
+pub mod Question
+pub mod Record
+pub mod Reply
