@@ -22,7 +22,7 @@ fn main() -> ExitCode {
 /// Says whether nothing was different.
 fn run(mut options: Options) -> Result<bool, String> {
     let seed = options.number("--seed", 1)?;
-    let count = options.number("--count", 100_000)?;
+    let count = options.number("--count", 116_000)?;
     options.end()?;
     Ok(compare(seed, count as usize))
 }

@@ -1,16 +1,16 @@
 -- From the kinds that may not be held, as the code has them, to those of the board.
 -- Assumes nothing.
 use mathlib.Core.Path.{_≡_, sym, subst}
-use mathlib.Core.Logic.{⊎-elim}
 use mathlib.Core.Bool.{Bool, not, _&&_, Bool·beq}
 use mathlib.Core.List.{List}
 use Prim.Native.Nat.{ℕ, _≤_, _<_}
 use native.Mathlib.Omega.{arith}
-use lib.ListN.{length, getD, List·getD-eq-default}
+use lib.ListN.{length, getD}
 use lib.Dec.{T, ltb, leb, leb→le, ltb→lt, le→leb, lt→ltb}
 use Rattle.tile.specs.Board.{Board}
 use Rattle.tile.specs.Refusal.{Lowest}
-use Rattle.tile.proofs.Tests.{at-most-or-over, and-parts, and-both, equal, allTo, all-to}
+use Rattle.tile.proofs.Tests.{and-parts, and-both, equal, allTo, all-to}
+use Rattle.tile.proofs.Counts.{held-inside}
 use Rattle.checks.specs.Over.{FirstOver}
 use Rattle.checks.specs.Barred.{BarredTo}
 
@@ -26,7 +26,7 @@ barred-by b r inside test =
 module _ {b : Board} {h : List ℕ} {end r : ℕ} (k : BarredTo b end) (e : length h ≡ b .kinds) (f : FirstOver h 1 end 0 r) where
   -- a kind past the end of the counts is not held
   inside : (j : ℕ) → 0 < getD h j 0 → j < b .kinds
-  inside j g = ⊎-elim (λ over. absurd (omega (arith, List·getD-eq-default h 0 over))) (λ under. omega arith) (at-most-or-over (length h) j)
+  inside j g = omega (arith, held-inside h j g)
 
   between : (j : ℕ) → T (not (b .held j)) → 0 < getD h j 0 → (1 ≤ j) × (j < end)
   between j x g =

@@ -4,6 +4,5 @@ mod Barred
 mod Faults
 mod Looked
 -- For callers.
-pub mod Fine
 pub mod Game
 pub mod Sum

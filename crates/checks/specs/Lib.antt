@@ -1,2 +1,3 @@
 pub mod Barred
+pub mod Checked
 pub mod Over

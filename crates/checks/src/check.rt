@@ -1,13 +1,13 @@
 // Whether lent counts are answered (01 "Refusal numbers"): the tests 2 to 6 in that order, the first fault first.
-ghost use Rattle.tile.specs.Board.{boardFor};
-ghost use Rattle.tile.specs.Refusal.{SuitFault, CheckedFor};
+ghost use Rattle.tile.specs.Refusal.{SuitFault};
+ghost use Rattle.checks.specs.Checked.{CheckedFor, boardFor};
 use crate::board::barred_end;
 use crate::board::kinds_of;
 use crate::over::first_over;
+use crate::tiles::Tiles;
 use crate::total::total;
 use tile::refusal::Checked;
 use tile::refusal::Reason;
-use tile::tiles::Tiles;
 
 // There is no game here, and so no refusal 1: whoever is given a game tests it first.
 pub fn check(tiles: Tiles, counts: &[u8], pairs: u8, melds: u8) -> Checked

@@ -2,4 +2,5 @@
 mod board;
 pub mod check;
 mod over;
+pub mod tiles;
 pub mod total;

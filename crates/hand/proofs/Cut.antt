@@ -4,11 +4,11 @@ use mathlib.Core.Path.{_≡_, refl, ap, subst, _∙_}
 use mathlib.Core.Logic.{⊎-elim}
 use mathlib.Core.Bool.{Bool, true, false, not, _||_}
 use mathlib.Core.List.{List}
-use Prim.Native.Nat.{ℕ, zero, suc, _+_, _≤_, _<_}
-use native.Mathlib.Nat.{add-suc}
+use Prim.Native.Nat.{ℕ, _+_, _≤_, _<_}
+use native.Mathlib.Nat.{eq-zero-or-pos}
 use native.Mathlib.Omega.{arith}
 use lib.ListN.{length, getD, take, drop, length-drop, List·getD-eq-default}
-use lib.Seq.{length-take-le, getD-take, getD-drop}
+use lib.Seq.{length-take-le}
 use lib.Dec.{T}
 use Rattle.tile.specs.Count.{sumTo}
 use Rattle.tile.specs.Board.{Board, ranks, honours, ends, whole3}
@@ -16,33 +16,27 @@ use Rattle.tile.specs.Target.{Target}
 use Rattle.tile.specs.Answer.{Answer}
 use Rattle.tile.specs.Tally.{kindsTo, liveTo}
 use Rattle.tile.specs.Hand.{HandRight}
-use Rattle.tile.specs.Refusal.{SuitFault}
+use Rattle.tile.specs.Refusal.{Faultless, SuitFault}
 use Rattle.tile.specs.Suits.{wholeOf}
 use Rattle.tile.specs.Goals.{GoalsPromised, AllRight}
 use Rattle.tile.specs.declared.found.Found.{Found}
 use Rattle.tile.specs.declared.one_suit.SuitGoals.{SuitGoals}
 use Rattle.tile.specs.declared.one_hand.HandFound.{HandFound}
-use Rattle.tile.specs.declared.refusal.Reason.the-variants.{Game, Goal, Length, Over, Sum, Barred}
 use Rattle.tile.specs.declared.refusal.Checked.{Checked}
-use Rattle.tile.specs.declared.refusal.Checked.the-variants as checked
+use Rattle.tile.specs.declared.refusal.Checked.the-variants.{Fine, Faulty}
 use Rattle.tile.proofs.Hand.{whole-kinds}
+use Rattle.tile.proofs.Accepted.{Accepted, accepted, faultless}
+use Rattle.tile.proofs.Counts.{held-inside, sum-further, sum-from}
+use Rattle.tile.proofs.Parts.{part-at}
 use Rattle.tile.proofs.Tests.{at-most-or-over, implied, all-to}
-use Rattle.checks.proofs.Fine.{Fine, fine}
-use Rattle.checks.proofs.Sum.{sum-further}
-use Rattle.hand.specs.Faultless.{Faultless, suitM}
+use Rattle.merge.proofs.Game.{suitM}
 
 -- what is promised for a suit without a fault is that all is right
-pub right-goals : {b : Board} {h : List ℕ} {r : List Found} (c : Checked) → Faultless (SuitFault b 0 0 h) → GoalsPromised b h c r → AllRight b h r
-right-goals checked.Fine none (fine, all) = all
-right-goals (checked.Faulty q) none (first, e) = absurd (none q (first .holds))
+pub right-goals : {b : Board} {h : List ℕ} {r : List Found} (c : Checked) → Accepted b 0 0 h → GoalsPromised b h c r → AllRight b h r
+right-goals Fine ok (fine, all) = all
+right-goals (Faulty q) ok (first, e) = absurd (faultless (λ (unknown : ⊥). unknown) ok q (first .holds))
 
 -- ---- a part of the counts
-
--- counts that are no more than those from o on sum up to no more
-sum-from : (o n : ℕ) (u h : List ℕ) → ((i : ℕ) → getD u i 0 ≤ getD h (o + i) 0) → sumTo n u ≤ sumTo (o + n) h
-unfolding sumTo
-sum-from o zero u h most = omega arith
-sum-from o (suc n) u h most = rw add-suc (omega (arith, sum-from o n u h most, most n))
 
 module _ (o n : ℕ) (h : List ℕ) (inside : o + n ≤ length h) where
   abbrev part : List ℕ
@@ -54,7 +48,7 @@ module _ (o n : ℕ) (h : List ℕ) (inside : o + n ≤ length h) where
   part-most : (i : ℕ) → getD part i 0 ≤ getD h (o + i) 0
   part-most i =
       ⊎-elim (λ over. rw (List·getD-eq-default part 0 {n = i} (omega (arith, part-long))) (omega arith))
-      (λ under. rw (getD-take n (drop o h) i 0 under, getD-drop o h i 0) (omega arith)) (at-most-or-over n i)
+      (λ under. rw (part-at o n h i under) (omega arith)) (at-most-or-over n i)
 
   part-sum : sumTo n part ≤ sumTo (length h) h
   part-sum = omega (arith, sum-from o n part h part-most, sum-further (o + n) (length h) h inside)
@@ -62,7 +56,7 @@ module _ (o n : ℕ) (h : List ℕ) (inside : o + n ≤ length h) where
 -- ---- no fault
 
 -- a hand without a fault on the board `all`; b lies there from o on, and what may not be held on b may not be held there
-module _ {all : Board} {k : ℕ} {h : List ℕ} (ok : Fine all 1 k h) (b : Board) (o : ℕ) (inside : o + b .kinds ≤ length h)
+module _ {all : Board} {k : ℕ} {h : List ℕ} (ok : Accepted all 1 k h) (b : Board) (o : ℕ) (inside : o + b .kinds ≤ length h)
     (barred : (i : ℕ) → i < b .kinds → T (not (b .held i)) → T (not (all .held (o + i)))) where
   abbrev cut : List ℕ
   cut = take (b .kinds) (drop o h)
@@ -73,18 +67,21 @@ module _ {all : Board} {k : ℕ} {h : List ℕ} (ok : Fine all 1 k h) (b : Board
   most : (i : ℕ) → getD cut i 0 ≤ getD h (o + i) 0
   most = part-most o (b .kinds) h inside
 
-  held-inside : (i : ℕ) → 0 < getD cut i 0 → i < b .kinds
-  held-inside i l = ⊎-elim (λ over. absurd (omega (arith, List·getD-eq-default cut 0 {n = i} (omega (arith, cut-long))))) (λ under. under) (at-most-or-over (b .kinds) i)
-
-  pub part-faultless : Faultless (SuitFault b 0 0 cut)
-  part-faultless Game x = x
-  part-faultless Goal x = ⊎-elim (λ l. omega arith) (λ l. omega arith) x
-  part-faultless Length x = x cut-long
-  part-faultless (Over i) x = omega (arith, x .holds, most i, ok .few (o + i))
-  part-faultless Sum x = omega (arith, part-sum o (b .kinds) h inside, ok .sum, ap (λ (n : ℕ). sumTo n cut) cut-long)
-  part-faultless (Barred i) x =
-      let (out, held) = x .holds in
-      omega (arith, most i, ok .held (o + i) (barred i (held-inside i held) out))
+  pub part-accepted : Accepted b 0 0 cut
+  part-accepted =
+      record {
+        long = cut-long;
+        few = λ i. omega (arith, most i, ok .few (o + i));
+        pairs = omega arith;
+        melds = omega arith;
+        sum = omega (arith, part-sum o (b .kinds) h inside, ok .sum, ap (λ (n : ℕ). sumTo n cut) cut-long);
+        held = held;
+      }
+    where
+      held : (i : ℕ) → T (not (b .held i)) → getD cut i 0 ≡ 0
+      held i out =
+          ⊎-elim (λ none. none) (λ some. omega (arith, most i, ok .held (o + i) (barred i (omega (arith, held-inside cut i some, cut-long)) out)))
+          (eq-zero-or-pos (getD cut i 0))
 
 -- ---- the parts of both games
 
@@ -101,8 +98,8 @@ pub record AllSuits (three-player : Bool) (h : List ℕ) (m p s z : List Found) 
   pub in-z : AllRight honours (take 7 (drop 27 h)) z
 
 module _ (three-player : Bool) (k : ℕ) (h : List ℕ) (none : Faultless (SuitFault (wholeOf three-player) 1 k h)) where
-  ok : Fine (wholeOf three-player) 1 k h
-  ok = fine none
+  ok : Accepted (wholeOf three-player) 1 k h
+  ok = accepted none
 
   pub hand-long : length h ≡ 34
   hand-long = ok .long ∙ whole-kinds three-player
@@ -116,12 +113,12 @@ module _ (three-player : Bool) (k : ℕ) (h : List ℕ) (none : Faultless (SuitF
       → GoalsPromised honours (take 7 (drop 27 h)) (z .checked) (z .goals) → AllSuits three-player h (m .goals) (p .goals) (s .goals) (z .goals)
   all-suits m p s z e in-m in-p in-s in-z =
       record {
-        in-m = right-goals (m .checked) (subst (λ (n : ℕ). Faultless (SuitFault (suitM three-player) 0 0 (take n (drop 0 h)))) (m-kinds three-player)
-            (part-faultless ok (suitM three-player) 0 (omega (arith, m-kinds three-player, hand-long)) (m-barred three-player)))
+        in-m = right-goals (m .checked) (subst (λ (n : ℕ). Accepted (suitM three-player) 0 0 (take n (drop 0 h))) (m-kinds three-player)
+            (part-accepted ok (suitM three-player) 0 (omega (arith, m-kinds three-player, hand-long)) (m-barred three-player)))
             (subst (λ (x : Board). GoalsPromised x (take 9 (drop 0 h)) (m .checked) (m .goals)) e in-m);
-        in-p = right-goals (p .checked) (part-faultless ok ranks 9 (omega (arith, hand-long)) (λ i l x. absurd x)) in-p;
-        in-s = right-goals (s .checked) (part-faultless ok ranks 18 (omega (arith, hand-long)) (λ i l x. absurd x)) in-s;
-        in-z = right-goals (z .checked) (part-faultless ok honours 27 (omega (arith, hand-long)) (λ i l x. absurd x)) in-z;
+        in-p = right-goals (p .checked) (part-accepted ok ranks 9 (omega (arith, hand-long)) (λ i l x. absurd x)) in-p;
+        in-s = right-goals (s .checked) (part-accepted ok ranks 18 (omega (arith, hand-long)) (λ i l x. absurd x)) in-s;
+        in-z = right-goals (z .checked) (part-accepted ok honours 27 (omega (arith, hand-long)) (λ i l x. absurd x)) in-z;
       }
 
 -- the five values together, over all 34 tiles

@@ -6,6 +6,7 @@ ghost use Rattle.merge.specs.Entry.{Entry};
 use merge::Merged;
 use tile::found::Found;
 
+// A set has 16 bits; moved up by at most 48 places it stays within 64.
 fn lift(found: Found, offset: usize) -> Merged
     requires { ⌜ offset ≤ 48 ⌝ }
     ensures { λ r. ⌜ r ≡ lifted offset found ⌝ }

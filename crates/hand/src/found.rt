@@ -1,13 +1,13 @@
 // What is found for a hand without a fault (01 "Merge", "What a target is").
 ghost use mathlib.Core.Path.{_≡_};
-ghost use lib.ListN.{length};
+ghost use lib.ListN.{length, getD};
+ghost use Rattle.tile.specs.Board.{ranks};
 ghost use Rattle.tile.specs.Target.{Target};
 ghost use Rattle.tile.specs.Answer.{Answer};
-ghost use Rattle.tile.specs.Refusal.{SuitFault};
+ghost use Rattle.tile.specs.Refusal.{Faultless, SuitFault};
 ghost use Rattle.tile.specs.Suit.{boardOf};
-ghost use Rattle.tile.specs.Suits.{wholeOf};
+ghost use Rattle.tile.specs.Suits.{suitsOf, wholeOf};
 ghost use Rattle.tile.specs.Hand.{HandRight};
-ghost use Rattle.hand.specs.Faultless.{Faultless, suitM};
 use crate::tally::kinds;
 use crate::tally::live;
 use crate::whole::whole;
@@ -22,7 +22,7 @@ use tile::suits::SuitZ;
 
 // The three-player game has 1m and 9m alone.
 fn suit_m(three_player: bool) -> Suit
-    ensures { λ r. ⌜ boardOf r ≡ suitM «three_player» ⌝ }
+    ensures { λ r. ⌜ boardOf r ≡ getD (suitsOf «three_player») 0 ranks ⌝ }
 {
     if three_player {
         return Suit::Ends;

@@ -1,10 +1,12 @@
-// The merge of two parts of the tiles (01 "Merge"): entries in, an entry out. The Rust merges over its first entry and so must go from the last
-// goal to the first; here both entries stay as they are, and the order of the goals does not matter.
+// The merge of two parts of the tiles (01 "Merge"): entries in, an entry out. The Rust source merges over its first entry and so must go from the
+// last goal to the first; here both entries stay as they are, and the order of the goals does not matter.
 ghost use mathlib.Core.Path.{_≡_};
-ghost use Prim.Native.Nat.{_+_, _-_, _*_, _≤_, _<_};
+ghost use Prim.Native.Nat.{_≤_};
 ghost use Rattle.merge.specs.Merge.{beside, better, bestTo, shared, merged};
 ghost use Rattle.merge.specs.Entry.{goalAt, Entry, Under};
 use merge::Merged;
+
+// All numbers here are small: a suit's are at most 14, and two of at most 100 add up within a byte.
 
 // What two parts give, together. A part that is given no pair and no meld still has its goal 0, and so the tiles that it can spare.
 fn beside(a: Merged, c: Merged) -> Merged
@@ -18,7 +20,7 @@ fn beside(a: Merged, c: Merged) -> Merged
     }
 }
 
-// `update_min` of the Rust: the smaller number, and where the numbers are equal the tiles of both.
+// `update_min` of the Rust source: the smaller number, and where the numbers are equal the tiles of both.
 fn better(best: Merged, other: Merged) -> Merged
     ensures { λ r. ⌜ r ≡ better best other ⌝ }
 {
@@ -35,7 +37,7 @@ fn better(best: Merged, other: Merged) -> Merged
     }
 }
 
-// The best of giving 0 to all of the melds to the first part, with `first` pairs there and `second` in the second part.
+// The best of giving none, some or all of the melds to the first part and the rest to the second. `first` and `second` are their pairs.
 fn shared(a: [Merged; 10], first: usize, c: [Merged; 10], second: usize, melds: usize) -> Merged
     requires { ⌜ (first ≤ 1) × (second ≤ 1) × (melds ≤ 4) × Under 100 a × Under 100 c ⌝ }
     ensures { λ r. ⌜ r ≡ bestTo (shared (goalAt a first) (goalAt c second) melds) melds ⌝ }

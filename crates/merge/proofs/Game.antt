@@ -1,13 +1,12 @@
 -- The hand's answer: the four suits' right answers, merged, are the right answer of the whole hand, in both games.
 -- Assumes nothing.
-use mathlib.Core.Path.{_≡_, refl, sym, subst, subst₂, _∙_}
+use mathlib.Core.Path.{_≡_, refl, sym, subst, subst₂}
 use mathlib.Core.Bool.{Bool, true, false}
 use mathlib.Core.List.{List}
-use Prim.Native.Nat.{ℕ, _+_, _*_, _≤_, _<_}
+use Prim.Native.Nat.{ℕ, _+_, _*_, _≤_}
 use native.Mathlib.Nat.{mul-one, le-refl}
 use native.Mathlib.Omega.{arith}
 use lib.ListN.{getD, take, drop}
-use lib.Seq.{getD-take, getD-drop}
 use Rattle.tile.specs.Board.{Board, ranks, honours, ends, whole4, whole3}
 use Rattle.tile.specs.Target.{Target}
 use Rattle.tile.specs.Answer.{Answer}
@@ -16,7 +15,7 @@ use Rattle.tile.specs.Suit.Right.{answer, no-target}
 use Rattle.tile.specs.Goals.{AllRight}
 use Rattle.tile.specs.Suits.{suitsOf, wholeOf, placeOf}
 use Rattle.tile.specs.declared.found.Found.{Found}
-use Rattle.tile.proofs.Parts.{Parts}
+use Rattle.tile.proofs.Parts.{two-parts, next-part}
 use Rattle.tile.proofs.Beside.{Beside}
 use Rattle.tile.proofs.Whole.{row-beside}
 use Rattle.tile.proofs.Places.{partAt}
@@ -56,18 +55,6 @@ three-player =
       mps = row-beside (firsts 18 whole3) ranks (firsts 27 whole3) tt;
       mpsz = row-beside (firsts 27 whole3) honours whole3 tt;
     }
-
--- ---- the parts of the hand
-
-module _ (n k : ℕ) (h : List ℕ) where
-  after : (j : ℕ) → j < k → getD (take k (drop n h)) j 0 ≡ getD h (n + j) 0
-  after j l = getD-take k (drop n h) j 0 l ∙ getD-drop n h j 0
-
-  two-parts : Parts n k h (take n h) (take k (drop n h))
-  two-parts = record { first = λ i l. getD-take n h i 0 l; after = after }
-
-  next-part : Parts n k h h (take k (drop n h))
-  next-part = record { first = λ i l. refl; after = after }
 
 -- ---- the suits
 
@@ -110,13 +97,13 @@ module _ (suit whole : Board) (sides : Sides suit whole) (bare : (q : ℕ) → q
 
 -- ---- the two games
 
--- m's board: nine ranks, and in the three-player game 1m/9m
-abbrev pub firstOf : Bool → Board
-firstOf three-players = getD (suitsOf three-players) 0 ranks
+-- m's board: nine ranks, or 1m/9m where there are three players
+abbrev pub suitM : Bool → Board
+suitM three-players = getD (suitsOf three-players) 0 ranks
 
 -- m's goals are known: each has its right answer, or no target and a stand-in
 abbrev pub FirstKnown : Bool → List ℕ → List Found → Type 0
-FirstKnown three-players h m = (q j : ℕ) → q ≤ 1 → j ≤ 4 → Known (firstOf three-players) 14 q j (partAt (placeOf 0) h) (suitAt 0 m q j)
+FirstKnown three-players h m = (q j : ℕ) → q ≤ 1 → j ≤ 4 → Known (suitM three-players) 14 q j (partAt (placeOf 0) h) (suitAt 0 m q j)
 
 -- right answers, and stand-ins for m's goals without a target, give the right answer of the hand
 hand-known : (three-players : Bool) (h : List ℕ) (k : ℕ) → k ≤ 4 → (m p s z : List Found) → FirstKnown three-players h m
@@ -127,7 +114,7 @@ hand-known true h k l m p s z on-m on-p on-s on-z = all ends whole3 three-player
 
 module _ (three-players : Bool) (h : List ℕ) (k : ℕ) (at-most : k ≤ 4) (m p s z : List Found) where
   -- the right answers of the four suits, merged, are the right answer of the hand
-  pub hand-right : AllRight (firstOf three-players) (partAt (placeOf 0) h) m → AllRight ranks (partAt (placeOf 1) h) p
+  pub hand-right : AllRight (suitM three-players) (partAt (placeOf 0) h) m → AllRight ranks (partAt (placeOf 1) h) p
       → AllRight ranks (partAt (placeOf 2) h) s → AllRight honours (partAt (placeOf 3) h) z
       → RightFor 34 (Target (wholeOf three-players) 1 k) h (handMerged m p s z k)
   unfolding suitAt

@@ -16,7 +16,7 @@ unfoldable pub beside : Merged → Merged → Merged
 beside a c =
     record { number = a .number + c .number; necessary = bitOr (a .necessary) (c .necessary); unnecessary = bitOr (a .unnecessary) (c .unnecessary) }
 
--- of two answers the one with the smaller number; where the numbers are equal, the tiles of both (`update_min` of the Rust)
+-- of two answers the one with the smaller number; where the numbers are equal, the tiles of both (`update_min` of the Rust source)
 unfoldable pub better : Merged → Merged → Merged
 better a c =
     cond (ltb (a .number) (c .number)) a

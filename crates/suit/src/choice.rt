@@ -1,4 +1,4 @@
-// The eight choices at a rank (01 "One suit"; `D_TABLE`, `M_TABLE` and `N_TABLE` of the Rust).
+// The eight choices at a rank (01 "One suit"; `D_TABLE`, `M_TABLE` and `N_TABLE` of the Rust source).
 ghost use mathlib.Core.Path.{_≡_};
 ghost use Prim.Native.Nat.{_≤_};
 ghost use Rattle.walk.specs.Choice.{sequenceTable, tripletTable, pairTable};

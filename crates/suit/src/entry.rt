@@ -1,36 +1,23 @@
 // The entries for one suit (01 "One suit"). They take all counts and all goals, and do their own checking.
-ghost use mathlib.Core.Path.{_≡_};
-ghost use Rattle.tile.specs.Board.{boardFor};
 ghost use Rattle.tile.specs.Suit.{boardOf, Promised};
 ghost use Rattle.tile.specs.Goals.{GoalsPromised};
 use crate::search::found_for;
 use checks::check::check;
+use checks::tiles::Tiles;
 use tile::found::Found;
 use tile::one_suit::Suit;
 use tile::one_suit::SuitAnswer;
 use tile::one_suit::SuitGoals;
 use tile::refusal::Checked;
-use tile::tiles::Tiles;
 
 // The starting bound: no target of four melds and a pair lacks more.
 const BOUND: u8 = 14;
-
-// What the counts of a suit are of.
-fn tiles_of(suit: Suit) -> Tiles
-    ensures { λ r. ⌜ boardFor r ≡ boardOf suit ⌝ }
-{
-    match suit {
-        Suit::Ranks => Tiles::Ranks,
-        Suit::Honours => Tiles::Honours,
-        Suit::Ends => Tiles::Ends,
-    }
-}
 
 // The answer for a goal of `pairs` pairs and `melds` melds.
 pub fn answer(suit: Suit, counts: &[u8], pairs: u8, melds: u8) -> SuitAnswer
     ensures { λ r. ⌜ Promised (boardOf suit) pairs melds (now (counts .entry)) r ⌝ }
 {
-    let checked = check(tiles_of(suit), counts, pairs, melds);
+    let checked = check(Tiles::Part(suit), counts, pairs, melds);
     match checked {
         Checked::Faulty(reason) => SuitAnswer::Refused(reason),
         Checked::Fine => SuitAnswer::Answered(found_for(suit, counts, pairs, melds, BOUND)),
@@ -46,7 +33,7 @@ pub fn goals(suit: Suit, counts: &[u8]) -> SuitGoals
         necessary: 0,
         unnecessary: 0,
     }; 10];
-    let checked = check(tiles_of(suit), counts, 0, 0);
+    let checked = check(Tiles::Part(suit), counts, 0, 0);
     let Checked::Fine = checked else {
         return SuitGoals {
             checked: checked,

@@ -23,6 +23,10 @@ few-by t h i =
     ⊎-elim (λ over. omega (arith, List·getD-eq-default t 0 over))
     (λ under. leb→le (getD t i 0) copies (all-to (length t) (λ i. leb (getD t i 0) copies) h i under)) (at-most-or-over (length t) i)
 
+-- a kind that is held is one of the kinds counted
+pub held-inside : (h : List ℕ) (i : ℕ) → 0 < getD h i 0 → i < length h
+held-inside h i held = ⊎-elim (λ over. absurd (omega (arith, List·getD-eq-default h 0 over))) (λ under. under) (at-most-or-over (length h) i)
+
 -- ---- one kind more often
 
 pub length-more : (t : List ℕ) (i c : ℕ) → length (more t i c) ≡ length t
@@ -106,6 +110,25 @@ pub sum-zeros : (n k : ℕ) → sumTo n (replicate k 0) ≡ 0
 unfolding sumTo
 sum-zeros zero k = refl
 sum-zeros (suc n) k = omega (arith, sum-zeros n k, zeros-at k n)
+
+-- it grows with each kind, and is few for each
+pub sum-further : (n k : ℕ) (t : List ℕ) → n ≤ k → sumTo n t ≤ sumTo k t
+unfolding sumTo
+sum-further n zero t l = let e : n ≡ 0 = omega arith in rw e (le-refl 0)
+sum-further n (suc k) t l =
+    ⊎-elim (λ over. let e : n ≡ suc k = omega arith in rw e (le-refl (sumTo (suc k) t)))
+    (λ under. omega (arith, sum-further n k t (omega arith))) (at-most-or-over (suc k) n)
+
+pub sum-few : (n : ℕ) (t : List ℕ) → Few t → sumTo n t ≤ copies * n
+unfolding sumTo
+sum-few zero t few = le-refl 0
+sum-few (suc n) t few = omega (arith, sum-few n t few, few n)
+
+-- counts that are no more than those from o on sum up to no more
+pub sum-from : (o n : ℕ) (u h : List ℕ) → ((i : ℕ) → getD u i 0 ≤ getD h (o + i) 0) → sumTo n u ≤ sumTo (o + n) h
+unfolding sumTo
+sum-from o zero u h most = omega arith
+sum-from o (suc n) u h most = rw add-suc (omega (arith, sum-from o n u h most, most n))
 
 -- what holds no more of any kind holds no more in all; and where it holds as many in all, it holds the same
 module _ (t h : List ℕ) where

@@ -13,17 +13,17 @@ use Rattle.tile.specs.Count.{Has}
 use Rattle.tile.specs.Board.{Board, whole3}
 use Rattle.tile.specs.Target.{Target}
 use Rattle.tile.specs.Answer.{Least}
-use Rattle.tile.specs.Refusal.{indexOf}
+use Rattle.tile.specs.Refusal.{indexOf, Faultless}
 use Rattle.tile.specs.Suits.{wholeOf}
 use Rattle.tile.specs.Tally.{kindsTo, liveTo}
-use Rattle.tile.specs.Hand.{tilesOf, Unknown, HandFault, HandRight, HandPromised}
+use Rattle.tile.specs.Hand.{boardOfGame, Unknown, HandFault, HandRight, HandPromised}
 use Rattle.tile.specs.declared.refusal.Reason.{Reason}
-use Rattle.tile.specs.declared.refusal.Reason.the-variants.{Barred}
 use Rattle.tile.specs.declared.one_hand.HandFound.{HandFound}
 use Rattle.tile.specs.declared.one_hand.HandAnswer.{HandAnswer}
 use Rattle.tile.specs.declared.one_hand.HandAnswer.the-variants.{Answered, Refused}
 use Rattle.tile.proofs.Unique.{least-once, answer-once}
-use Rattle.tile.proofs.Promise.{never, fault-once, index-inside}
+use Rattle.tile.proofs.Promise.{fault-once, index-inside}
+use Rattle.tile.proofs.Accepted.{fault-as, accepted}
 use Rattle.tile.proofs.Size.{number-at-most, number-zero}
 use Rattle.tile.proofs.Narrow.{Outer, three-player}
 
@@ -37,10 +37,10 @@ hand-right-once b k h x y =
     λ i. record { number = number i; necessary = necessary i; unnecessary = unnecessary i; kinds = kinds i; live = live i }
 
 pub hand-once : (game k : ℕ) (h : List ℕ) (r s : HandAnswer) → HandPromised game k h r → HandPromised game k h s → r ≡ s
-hand-once game k h (Refused q) (Refused r) x y = ap Refused (fault-once _ (tilesOf game) 1 k h q r x y)
+hand-once game k h (Refused q) (Refused r) x y = ap Refused (fault-once _ (boardOfGame game) 1 k h q r x y)
 hand-once game k h (Refused q) (Answered s) x (fine, y) = absurd (fine q (x .holds))
 hand-once game k h (Answered r) (Refused q) (fine, x) y = absurd (fine q (y .holds))
-hand-once game k h (Answered r) (Answered s) (f, x) (g, y) = ap Answered (hand-right-once (tilesOf game) k h x y)
+hand-once game k h (Answered r) (Answered s) (f, x) (g, y) = ap Answered (hand-right-once (boardOfGame game) k h x y)
 
 -- ---- what follows
 
@@ -59,11 +59,10 @@ module _ {b : Board} {k : ℕ} {h : List ℕ} {r : HandFound} (right : HandRight
 -- ---- game 3
 
 -- a hand that is not refused holds none of the tiles 1 to 7
-three-outer : {k : ℕ} {h : List ℕ} → ((q : Reason) → HandFault 3 k h q → ⊥) → Outer h
-three-outer {h = h} none i l m =
+three-outer : {k : ℕ} {h : List ℕ} → Faultless (HandFault 3 k h) → Outer h
+three-outer {k} {h} none i l m =
     let barred : T (not (whole3 .held i)) = rw (le-ltb i 1 l, le-ltb 7 i m) tt in
-    let out : 0 < getD h i 0 → ⊥ = λ held. never (λ j. T (not (whole3 .held j)) × (0 < getD h j 0)) (λ j. none (Barred j)) i (barred, held) in
-    omega arith
+    accepted (λ q x. none q (fault-as whole3 1 k h absurd q x)) .held i barred
 
 -- and neither set of its answer has any of them
 pub three-sets : {k : ℕ} {h : List ℕ} {r : HandFound} → HandPromised 3 k h (Answered r)
@@ -75,12 +74,13 @@ three-sets {k} {h} {r} (none, right) i l m = (
 
 -- ---- refusals
 
--- the index that comes back with a refusal is one of the 34 tiles
+-- both games have 34 tiles
 pub whole-kinds : (three-player : Bool) → wholeOf three-player .kinds ≡ 34
 whole-kinds false = refl
 whole-kinds true = refl
 
+-- the index that comes back with a refusal is one of them
 pub hand-index : (game k : ℕ) (h : List ℕ) (q : Reason) → HandPromised game k h (Refused q) → indexOf q < 34
 hand-index game k h q first =
     let all = whole-kinds (eqb game 3) in
-    omega (arith, index-inside (Unknown game) (tilesOf game) 1 k h (omega arith) q first)
+    omega (arith, index-inside (Unknown game) (boardOfGame game) 1 k h (omega arith) q first)

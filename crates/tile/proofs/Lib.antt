@@ -14,6 +14,7 @@ pub mod Answers
 pub mod Size
 pub mod Suit
 pub mod Promise
+pub mod Accepted
 pub mod Sense
 pub mod Whole
 pub mod Places

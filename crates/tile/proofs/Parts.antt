@@ -1,13 +1,13 @@
 -- Counts, lacks and sets in two parts: the first n kinds, and the k kinds after them.
 -- Assumes nothing.
-use mathlib.Core.Path.{_≡_, sym, ap, subst, _∙_}
+use mathlib.Core.Path.{_≡_, refl, sym, ap, subst, _∙_}
 use mathlib.Core.Logic.{_↔_, _⊎_, inl, inr, ⊎-elim}
 use mathlib.Core.List.{List, _++_}
 use Prim.Native.Nat.{ℕ, zero, suc, _+_, _-_, _*_, _/_, _%_, _^_, _<_}
 use native.Mathlib.Nat.{add-zero, add-suc, add-comm, mul-assoc, div-eq-of-lt, lt-of-lt-of-le}
 use native.Mathlib.Omega.{arith}
-use lib.ListN.{length, getD, List·getD-append}
-use lib.Seq.{getD-append-add}
+use lib.ListN.{length, getD, take, drop, List·getD-append}
+use lib.Seq.{getD-append-add, getD-take, getD-drop}
 use lib.Pow.{pow-add, pow-mono, shl-lt, shl-shr, shr-shr}
 use lib.Bits.{bitOr, shifted-even}
 use Rattle.tile.specs.Count.{lackTo, Has}
@@ -22,6 +22,18 @@ use Rattle.tile.proofs.Sets.{exactly-or}
 pub record Parts (n k : ℕ) (t l r : List ℕ) : Type 0 where
   pub first : (i : ℕ) → i < n → getD l i 0 ≡ getD t i 0
   pub after : (j : ℕ) → j < k → getD r j 0 ≡ getD t (n + j) 0
+
+-- k kinds from n on, cut out of t
+pub part-at : (n k : ℕ) (t : List ℕ) (j : ℕ) → j < k → getD (take k (drop n t)) j 0 ≡ getD t (n + j) 0
+part-at n k t j l = getD-take k (drop n t) j 0 l ∙ getD-drop n t j 0
+
+-- the parts of t: its first kinds cut out too, or t itself, of which only these are looked at
+module _ (n k : ℕ) (t : List ℕ) where
+  pub two-parts : Parts n k t (take n t) (take k (drop n t))
+  two-parts = record { first = λ i l. getD-take n t i 0 l; after = part-at n k t }
+
+  pub next-part : Parts n k t t (take k (drop n t))
+  next-part = record { first = λ i l. refl; after = part-at n k t }
 
 module _ {n k : ℕ} where
   -- what holds of the first n kinds and of the k kinds after them holds of all

@@ -7,7 +7,7 @@ use mathlib.Core.WellFounded.{WellFounded·induction}
 use Prim.Native.Nat.{ℕ, _-_, _<_}
 use native.Mathlib.Decide.{ℕ-discrete}
 use native.Mathlib.Omega.{arith}
-use lib.ListN.{length, getD, List·getD-eq-default}
+use lib.ListN.{length, getD}
 use lib.Seq.{ext-getD}
 use lib.WfN.{Nat·lt-wfRel}
 use Rattle.tile.specs.Board.{Board}
@@ -21,7 +21,8 @@ use Rattle.tile.specs.declared.one_suit.SuitAnswer.{SuitAnswer}
 use Rattle.tile.specs.declared.one_suit.SuitAnswer.the-variants.{Answered, Refused}
 use Rattle.tile.specs.declared.refusal.Checked.{Checked}
 use Rattle.tile.specs.declared.refusal.Checked.the-variants.{Fine, Faulty}
-use Rattle.tile.proofs.Tests.{at-most-or-over}
+use Rattle.tile.proofs.Tests.{at-most-or-over, not-unequal}
+use Rattle.tile.proofs.Counts.{held-inside}
 use Rattle.tile.proofs.Suit.{right-once}
 
 -- only one number is the lowest
@@ -107,19 +108,16 @@ module _ (b : Board) (p m : ℕ) (h : List ℕ) where
 
 -- the index that comes back is one of the lent counts, of which there are as many as the board has kinds
 module _ (unknown : Type 0) (b : Board) (p m : ℕ) (h : List ℕ) (some : 0 < b .kinds) where
-  held-inside : (i : ℕ) → 0 < getD h i 0 → ((length h ≡ b .kinds → ⊥) → ⊥) → i < b .kinds
-  held-inside i l long =
-      let shorter : length h < b .kinds → ⊥ = λ x. long (λ e. omega arith) in
-      let longer : b .kinds < length h → ⊥ = λ x. long (λ e. omega arith) in
-      ⊎-elim (λ over. absurd (omega (arith, List·getD-eq-default h 0 over))) (λ under. omega arith) (at-most-or-over (length h) i)
+  held-there : (i : ℕ) → 0 < getD h i 0 → ((length h ≡ b .kinds → ⊥) → ⊥) → i < b .kinds
+  held-there i l long = omega (arith, held-inside h i l, not-unequal (length h) (b .kinds) long)
 
   pub index-inside : (q : Reason) → First (Fault unknown b p m h) q → indexOf q < b .kinds
   index-inside Game f = some
   index-inside Goal f = some
   index-inside Length f = some
-  index-inside (Over i) f = held-inside i (omega (arith, f .holds .holds)) (f .none-before Length (omega arith))
+  index-inside (Over i) f = held-there i (omega (arith, f .holds .holds)) (f .none-before Length (omega arith))
   index-inside Sum f = some
-  index-inside (Barred i) f = held-inside i (f .holds .holds .1) (f .none-before Length (omega arith))
+  index-inside (Barred i) f = held-there i (f .holds .holds .1) (f .none-before Length (omega arith))
 
 -- for the ten goals
 module _ (b : Board) (h : List ℕ) where

@@ -10,8 +10,8 @@ use native.Mathlib.Omega.{arith}
 use lib.ListN.{getD}
 use lib.Pow.{pow-pos, mod-pow-add}
 use lib.Count.{ones, ones-cat}
-use Rattle.tile.specs.Count.{copies}
-use Rattle.tile.specs.Tally.{oneIf, kindsTo, liveTo}
+use Rattle.tile.specs.Count.{copies, oneIf}
+use Rattle.tile.specs.Tally.{kindsTo, liveTo}
 
 -- a kind is in the set or not
 pub in-or-out : (s i : ℕ) → (oneIf s i ≡ 0) ⊎ (oneIf s i ≡ 1)

@@ -12,6 +12,13 @@ at-most-or-over zero b = inl (omega arith)
 at-most-or-over (suc a) zero = inr (omega arith)
 at-most-or-over (suc a) (suc b) = ⊎-elim (λ p. inl (omega arith)) (λ q. inr (omega arith)) (at-most-or-over a b)
 
+-- two numbers that do not differ are equal
+pub not-unequal : (a b : ℕ) → ((a ≡ b → ⊥) → ⊥) → a ≡ b
+not-unequal a b same =
+    let less : a < b → ⊥ = λ l. same (λ e. omega arith) in
+    let more : b < a → ⊥ = λ l. same (λ e. omega arith) in
+    omega arith
+
 pub passes-or-fails : (b : Bool) → T b ⊎ T (not b)
 passes-or-fails true = inl tt
 passes-or-fails false = inr tt

@@ -4,8 +4,6 @@
 use mathlib.Core.Bool.{Bool, true, false, _&&_, _||_}
 use Prim.Native.Nat.{ℕ, _%_}
 use lib.Dec.{ltb, leb, eqb}
-use Rattle.tile.specs.declared.tiles.Tiles.{Tiles}
-use Rattle.tile.specs.declared.tiles.Tiles.the-variants.{Ranks, Honours, Ends, Four, Three}
 
 -- how many kinds there are, which of them may be held, and where a sequence may start
 pub record Board : Type 0 where
@@ -36,11 +34,3 @@ whole4 = record { kinds = 34; held = λ i. true; starts = λ i. ltb i 27 && ltb 
 -- all 34 tiles of game 3: nothing at index 1 to 7, and so no sequence in m
 abbrev pub whole3 : Board
 whole3 = record { kinds = 34; held = λ i. ltb i 1 || ltb 7 i; starts = λ i. leb 9 i && ltb i 27 && ltb (i % 9) 7 }
-
--- which board counts are on, by what they are of
-abbrev pub boardFor : Tiles → Board
-boardFor Ranks = ranks
-boardFor Honours = honours
-boardFor Ends = ends
-boardFor Four = whole4
-boardFor Three = whole3

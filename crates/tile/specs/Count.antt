@@ -31,9 +31,13 @@ unfoldable pub lackTo : ℕ → List ℕ → List ℕ → ℕ
 lackTo zero t h = 0
 lackTo (suc n) t h = lackTo n t h + (getD t n 0 - getD h n 0)
 
+-- 1 where kind i is in the set s, else 0
+abbrev pub oneIf : ℕ → ℕ → ℕ
+oneIf s i = (s / 2 ^ i) % 2
+
 -- kind i is in the set s
 unfoldable pub Has : ℕ → ℕ → Type 0
-Has s i = (s / 2 ^ i) % 2 ≡ 1
+Has s i = oneIf s i ≡ 1
 
 unfoldable pub bit : Bool → ℕ
 bit true = 1

@@ -5,10 +5,9 @@ use mathlib.Core.List.{List}
 use Prim.Native.Nat.{ℕ, _/_, _%_, _<_}
 use lib.ListN.{length, getD, replicate}
 use Rattle.tile.specs.Board.{Board}
-use Rattle.tile.specs.Refusal.{First, SuitFault, mostTiles}
+use Rattle.tile.specs.Refusal.{First, Faultless, SuitFault, mostTiles}
 use Rattle.tile.specs.Suit.{blank, Right}
 use Rattle.tile.specs.declared.found.Found.{Found}
-use Rattle.tile.specs.declared.refusal.Reason.{Reason}
 use Rattle.tile.specs.declared.refusal.Checked.{Checked}
 use Rattle.tile.specs.declared.refusal.Checked.the-variants.{Fine, Faulty}
 
@@ -21,4 +20,4 @@ pub record AllRight (b : Board) (h : List ℕ) (r : List Found) : Type 0 where
 -- no goal is asked for, so the faults are those of the goal 0 0, which is never at fault itself
 abbrev pub GoalsPromised : Board → List ℕ → Checked → List Found → Type 0
 GoalsPromised b h (Faulty q) r = First (SuitFault b 0 0 h) q × (r ≡ replicate 10 blank)
-GoalsPromised b h Fine r = ((q : Reason) → SuitFault b 0 0 h q → ⊥) × AllRight b h r
+GoalsPromised b h Fine r = Faultless (SuitFault b 0 0 h) × AllRight b h r

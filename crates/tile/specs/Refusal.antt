@@ -11,8 +11,6 @@ use Rattle.tile.specs.Count.{copies, sumTo}
 use Rattle.tile.specs.Board.{Board}
 use Rattle.tile.specs.declared.refusal.Reason.{Reason}
 use Rattle.tile.specs.declared.refusal.Reason.the-variants.{Game, Goal, Length, Over, Sum, Barred}
-use Rattle.tile.specs.declared.refusal.Checked.{Checked}
-use Rattle.tile.specs.declared.refusal.Checked.the-variants.{Fine, Faulty}
 
 -- 01's number of each reason
 abbrev pub codeOf : Reason → ℕ
@@ -42,10 +40,9 @@ pub record First (Fault : Reason → Type 0) (r : Reason) : Type 0 where
   pub holds : Fault r
   pub none-before : (q : Reason) → codeOf q < codeOf r → Fault q → ⊥
 
--- what a check of these conditions finds: the first that holds, or that none does
-abbrev pub CheckedFor : (Reason → Type 0) → Checked → Type 0
-CheckedFor Fault (Faulty q) = First Fault q
-CheckedFor Fault Fine = (q : Reason) → Fault q → ⊥
+-- the condition of no reason holds
+abbrev pub Faultless : (Reason → Type 0) → Type 0
+Faultless Fault = (q : Reason) → Fault q → ⊥
 
 -- the most melds of a goal, and the most tiles of a hand, which is also the starting bound
 abbrev pub mostMelds : ℕ

@@ -6,9 +6,8 @@ use Prim.Native.Nat.{ℕ}
 use Rattle.tile.specs.Board.{Board, ranks, honours, ends}
 use Rattle.tile.specs.Target.{Target}
 use Rattle.tile.specs.Answer.{Answer}
-use Rattle.tile.specs.Refusal.{codeOf, indexOf, First, SuitFault, mostTiles}
+use Rattle.tile.specs.Refusal.{codeOf, indexOf, First, Faultless, SuitFault, mostTiles}
 use Rattle.tile.specs.declared.found.Found.{Found}
-use Rattle.tile.specs.declared.refusal.Reason.{Reason}
 use Rattle.tile.specs.declared.one_suit.Suit.{Suit}
 use Rattle.tile.specs.declared.one_suit.Suit.the-variants.{Ranks, Honours, Ends}
 use Rattle.tile.specs.declared.one_suit.SuitAnswer.{SuitAnswer}
@@ -23,16 +22,17 @@ pub data Right (b : Board) (bound p m : ℕ) (h : List ℕ) (r : Found) : Type 0
   answer : Answer (b .kinds) (Target b p m) h (r .number) (r .necessary) (r .unnecessary) → Right b bound p m h r
   no-target : ((t : List ℕ) → Target b p m t → ⊥) → r ≡ unfound bound → Right b bound p m h r
 
--- 01's number and values for each case of an answer: 0 with what was found, or the number of a refusal with its index and zeros
+-- three zeros
 abbrev pub blank : Found
 blank = record { number = 0; necessary = 0; unnecessary = 0 }
 
-pub record Values : Type 0 where
+-- 01's number and values for each case of an answer: 0 with what was found, or the number of a refusal with its index and zeros
+pub record Values (Found : Type 0) : Type 0 where
   pub code : ℕ
   pub index : ℕ
   pub found : Found
 
-abbrev pub valuesOf : SuitAnswer → Values
+abbrev pub valuesOf : SuitAnswer → Values Found
 valuesOf (Answered r) = record { code = 0; index = 0; found = r }
 valuesOf (Refused q) = record { code = codeOf q; index = indexOf q; found = blank }
 
@@ -45,4 +45,4 @@ boardOf Ends = ends
 -- what is promised for one goal: a refusal by the first fault, or the right answer where there is none
 abbrev pub Promised : Board → ℕ → ℕ → List ℕ → SuitAnswer → Type 0
 Promised b p m h (Refused q) = First (SuitFault b p m h) q
-Promised b p m h (Answered r) = ((q : Reason) → SuitFault b p m h q → ⊥) × Right b mostTiles p m h r
+Promised b p m h (Answered r) = Faultless (SuitFault b p m h) × Right b mostTiles p m h r

@@ -6,4 +6,3 @@ pub mod one_hand;
 pub mod one_suit;
 pub mod refusal;
 pub mod suits;
-pub mod tiles;

@@ -1,4 +1,4 @@
--- The eight choices at a rank (01 "One suit"; `D_TABLE` of the Rust): so many sequences that start there, triplets and pairs.
+-- The eight choices at a rank (01 "One suit"; `D_TABLE` of the Rust source): so many sequences that start there, triplets and pairs.
 -- In the order 000, 001, 010, 100, 101, 110, 200, 201; the first three are without a sequence.
 -- Assumes nothing.
 use mathlib.Core.List.{List, [], _∷_}

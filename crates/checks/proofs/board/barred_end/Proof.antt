@@ -2,37 +2,28 @@
 -- Assumes nothing.
 use native.Mathlib.Omega.{arith}
 use borrow.Author.Needs.{needs}
-use Rattle.tile.specs.Board.{ranks, honours, ends, whole4, whole3}
+use Rattle.tile.specs.Board.{whole4, whole3}
 use Rattle.checks.proofs.Barred.{barred-by}
 use Rattle.checks.proofs.board.barred_end.Statement.{statement}
 use Rattle.checks.proofs.board.barred_end.Tie as tie
 
 returns : tie.Need-returns
-returns c = rw (c .enum-told .given .1) (barred-by ranks _ (omega arith) tt)
+returns c = rw (c .before .before .tiles .given .1) (c .suit-barred-end .ensures)
 
 returns-2 : tie.Need-returns-2
-returns-2 c = rw (c .enum-told2 .given .1) (barred-by honours _ (omega arith) tt)
+returns-2 c = rw (c .enum-told .given .1) (barred-by whole4 _ (omega arith) tt)
 
 returns-3 : tie.Need-returns-3
-returns-3 c = rw (c .enum-told3 .given .1) (barred-by ends _ (omega arith) tt)
-
-returns-4 : tie.Need-returns-4
-returns-4 c = rw (c .enum-told4 .given .1) (barred-by whole4 _ (omega arith) tt)
-
-returns-5 : tie.Need-returns-5
-returns-5 c = rw (c .enum-told5 .given .1) (barred-by whole3 _ (omega arith) tt)
+returns-3 c = rw (c .enum-told2 .given .1) (barred-by whole3 _ (omega arith) tt)
 
 pub barred-end-spec : {M : Type 1} → statement M
 barred-end-spec =
     tie.close
     (tie.spec
     (λ c. search needs)
-    (λ c. search needs)
-    (λ c. search needs)
+    (λ c κs. search needs)
     (λ c. search needs)
     (λ c. search needs)
     returns
     returns-2
-    returns-3
-    returns-4
-    returns-5)
+    returns-3)

@@ -7,7 +7,7 @@ use native.Mathlib.Numerals.{add-one}
 use native.Mathlib.Omega.{arith}
 use lib.ListN.{length, getD}
 use Rattle.tile.specs.Count.{sumTo}
-use Rattle.checks.proofs.Sum.{sum-further}
+use Rattle.tile.proofs.Counts.{sum-further}
 use Rattle.checks.proofs.total.total.Statement.{statement}
 use Rattle.checks.proofs.total.total.Tie as tie
 

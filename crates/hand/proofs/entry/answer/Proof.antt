@@ -1,24 +1,34 @@
 -- `hand::entry::answer` meets its contract: a hand that is not refused has what the search requires.
 -- Assumes nothing.
 use borrow.Author.Needs.{needs}
-use Rattle.tile.specs.Hand.{tilesOf}
-use Rattle.checks.proofs.Game.{same}
+use Rattle.tile.specs.Hand.{boardOfGame}
+use Rattle.tile.proofs.Accepted.{fault-as}
 use Rattle.hand.proofs.entry.answer.Statement.{statement}
 use Rattle.hand.proofs.entry.answer.Tie as tie
 
 found-for-requires : tie.Need-found-for-requires
 found-for-requires c κs =
-    let none = rw (c .enum-told .given .1) at (c .before .before .check .ensures) in
-    let s = c .before .before .before .before .args in
-    λ q x. none q (same (tilesOf (s .game)) 1 (s .k) (s .counts .now) absurd q x)
+    let none = rw (c .before .enum-told .given .1) at (c .before .before .before .check .ensures) in
+    let s = c .before .before .before .before .before .args in
+    rw (c .is-three-player .ensures) (λ q x. none q (fault-as (boardOfGame (s .game)) 1 (s .k) (s .counts .now) absurd q x))
 
 returns : tie.Need-returns
 returns c = rw (c .before .checked .given .1) at (c .before .before .before .check .ensures)
 
 returns-2 : tie.Need-returns-2
-returns-2 c = (rw (c .before .enum-told .given .1) at (c .before .before .before .check .ensures), c .found-for .ensures)
+returns-2 c = (
+  rw (c .before .before .enum-told .given .1) at (c .before .before .before .before .check .ensures),
+  rw (c .before .is-three-player .ensures) at (c .found-for .ensures),
+)
 
 pub answer-spec : {M : Type 1} → statement M
 answer-spec =
     tie.close
-    (tie.spec (λ c κs. search needs) (λ c. search needs) (λ c. search needs) found-for-requires returns returns-2)
+    (tie.spec
+    (λ c κs. search needs)
+    (λ c. search needs)
+    (λ c. search needs)
+    (λ c κs. search needs)
+    found-for-requires
+    returns
+    returns-2)

@@ -4,7 +4,7 @@ use mathlib.Core.Path.{sym, subst}
 use borrow.Author.Needs.{needs}
 use Rattle.tile.specs.Target.{Target}
 use Rattle.tile.specs.Suits.{wholeOf}
-use Rattle.checks.proofs.Fine.{fine}
+use Rattle.tile.proofs.Accepted.{accepted}
 use Rattle.merge.proofs.Best.{RightFor}
 use Rattle.merge.proofs.Game.{hand-right}
 use Rattle.hand.proofs.Cut.{all-suits}
@@ -21,7 +21,7 @@ whole-requires c κs =
     let start = m .before .before .before .before in
     let all = all-suits (start .args .three-player) (start .args .k) (start .args .counts .now) (start .pre .1) (m .goals .result) (p .goals2 .result)
     (s .goals3 .result) (z .goals4 .result) (m .before .before .suit-m .ensures) (m .goals .ensures) (p .goals2 .ensures) (s .goals3 .ensures) (z .goals4 .ensures) in
-    (fine (start .pre .1) .melds, all-low (all .in-m), all-low (all .in-p), all-low (all .in-s), all-low (all .in-z))
+    (accepted (start .pre .1) .melds, all-low (all .in-m), all-low (all .in-p), all-low (all .in-s), all-low (all .in-z))
 
 returns : tie.Need-returns
 returns c =
@@ -33,7 +33,7 @@ returns c =
     let all = all-suits (start .args .three-player) (start .args .k) (start .args .counts .now) (start .pre .1) (m .goals .result) (p .goals2 .result)
     (s .goals3 .result) (z .goals4 .result) (m .before .before .suit-m .ensures) (m .goals .ensures) (p .goals2 .ensures) (s .goals3 .ensures) (z .goals4 .ensures) in
     subst (RightFor 34 (Target (wholeOf (start .args .three-player)) 1 (start .args .k)) (start .args .counts .now)) (sym (c .whole .ensures))
-    (hand-right (start .args .three-player) (start .args .counts .now) (start .args .k) (fine (start .pre .1) .melds) _ _ _ _ (all .in-m) (all .in-p) (all .in-s) (all .in-z))
+    (hand-right (start .args .three-player) (start .args .counts .now) (start .args .k) (accepted (start .pre .1) .melds) _ _ _ _ (all .in-m) (all .in-p) (all .in-s) (all .in-z))
 
 pub merged-for-spec : {M : Type 1} → statement M
 merged-for-spec =

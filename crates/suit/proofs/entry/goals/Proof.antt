@@ -7,7 +7,7 @@ use borrow.Author.Needs.{needs}
 use Rattle.tile.specs.Refusal.{mostTiles}
 use Rattle.tile.specs.Suit.{blank, Right, boardOf}
 use Rattle.tile.proofs.Filling.{Filled, filled-none, filled-more, filled-all}
-use Rattle.checks.proofs.Fine.{fine}
+use Rattle.tile.proofs.Accepted.{accepted}
 use Rattle.suit.proofs.entry.goals.Statement.{statement}
 use Rattle.suit.proofs.entry.goals.Tie as tie
 
@@ -22,12 +22,12 @@ returns : tie.Need-returns Inv-loop μ-loop
 returns c =
     let s = c .before .before in
     let e = c .enum-told2 .given .1 in
-    rw e (rw (s .before .tiles-of .ensures, e) at (s .check .ensures), refl)
+    rw e (rw (e) at (s .check .ensures), refl)
 
 found-for-requires : tie.Need-found-for-requires Inv-loop μ-loop
 found-for-requires c κs =
     let s = c .before .before .before .before in
-    let f = fine (rw (s .before .tiles-of .ensures, c .before .before .enum-told .given .1) at (s .check .ensures)) in
+    let f = accepted (rw (c .before .before .enum-told .given .1) at (s .check .ensures)) in
     (f .long, f .few, omega arith, omega arith, omega arith)
 
 loop-again : tie.Need-loop-again Inv-loop μ-loop
@@ -38,7 +38,7 @@ returns-2 c =
     let s = c .before .before .before .before in
     let e = c .before .before .enum-told .given .1 in
     let l = c .before .loop in
-    rw e (rw (s .before .tiles-of .ensures, e) at (s .check .ensures), record { ten = l .inv .long; each = filled-all (omega arith) (l .inv) })
+    rw e (rw (e) at (s .check .ensures), record { ten = l .inv .long; each = filled-all (omega arith) (l .inv) })
 
 pub goals-spec : {M : Type 1} → statement M
 goals-spec =
@@ -46,7 +46,6 @@ goals-spec =
     (tie.spec
     Inv-loop
     μ-loop
-    (λ c κs. tt)
     (λ c κs. tt)
     (λ c. search needs)
     (λ c. search needs)
