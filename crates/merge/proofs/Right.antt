@@ -4,18 +4,18 @@
 use mathlib.Core.Path.{_≡_, refl, sym, ap, ap₂, subst, subst₂, subst₃, _∙_}
 use mathlib.Core.Logic.{_↔_, ⊎-elim}
 use mathlib.Core.List.{List, _++_}
-use Prim.Native.Nat.{ℕ, zero, suc, _+_, _-_, _*_, _^_, _≤_, _<_}
+use Prim.Native.Nat.{ℕ, suc, _+_, _-_, _*_, _^_, _≤_, _<_}
 use native.Mathlib.Nat.{zero-mul}
 use native.Mathlib.Omega.{arith}
 use lib.ListN.{getD}
 use lib.Bits.{bitOr, or-zero-r}
-use Rattle.tile.specs.Count.{sumTo, lackTo}
+use Rattle.tile.specs.Count.{lackTo}
 use Rattle.tile.specs.Board.{Board}
 use Rattle.tile.specs.Target.{Target}
 use Rattle.tile.specs.Answer.{Answer}
 use Rattle.tile.specs.declared.found.Found.{Found}
 use Rattle.tile.proofs.Tests.{at-most-or-over}
-use Rattle.tile.proofs.Counts.{lack-sum}
+use Rattle.tile.proofs.Counts.{lacks-all}
 use Rattle.tile.proofs.Sets.{exactly-once, exactly-none}
 use Rattle.tile.proofs.Built.{built-length}
 use Rattle.tile.proofs.Beside.{Beside, target-split, target-join}
@@ -52,15 +52,6 @@ known-some {t = t} tg (stands none stand-in) = absurd (none t tg)
 -- some target for the goal holds every kind of the board
 abbrev pub Full : Board → ℕ → ℕ → Type 0
 Full b p m = (t : List ℕ) × Target b p m t × ((i : ℕ) → i < b .kinds → 0 < getD t i 0)
-
--- where a target lacks all its tiles, none of its kinds is held
-lacks-all : (n : ℕ) (t h : List ℕ) → sumTo n t ≤ lackTo n t h → (i : ℕ) → i < n → 0 < getD t i 0 → getD h i 0 ≡ 0
-unfolding sumTo lackTo
-lacks-all zero t h all i l some = absurd (omega arith)
-lacks-all (suc n) t h all i l some =
-    let most = lack-sum n t h in
-    ⊎-elim (λ (over : n ≤ i). let e : i ≡ n = omega arith in rw e (omega (arith, rw e at some))) (λ under. lacks-all n t h (omega arith) i under some)
-    (at-most-or-over n i)
 
 -- two empty sets more change nothing
 no-more : (x y z n : ℕ) → y ≡ 0 → z ≡ 0 → bitOr x (bitOr y (z * 2 ^ n)) ≡ x

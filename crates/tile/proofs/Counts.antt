@@ -186,6 +186,15 @@ lack-some (suc n) t h l =
     ⊎-elim (λ over. let (i, m, g) = lack-some n t h (omega arith) in (i, omega arith, g)) (λ under. (n, omega arith, under))
     (at-most-or-over (getD t n 0) (getD h n 0))
 
+-- where a target lacks all its tiles, none of its kinds is held
+pub lacks-all : (n : ℕ) (t h : List ℕ) → sumTo n t ≤ lackTo n t h → (i : ℕ) → i < n → 0 < getD t i 0 → getD h i 0 ≡ 0
+unfolding sumTo lackTo
+lacks-all zero t h all i l some = absurd (omega arith)
+lacks-all (suc n) t h all i l some =
+    let most = lack-sum n t h in
+    ⊎-elim (λ (over : n ≤ i). let e : i ≡ n = omega arith in rw e (omega (arith, rw e at some))) (λ under. lacks-all n t h (omega arith) i under some)
+    (at-most-or-over n i)
+
 -- the lack is of the kinds counted: the same where these are the same, no less over more kinds, no more past the last tile
 pub lack-as : (n : ℕ) (t u h k : List ℕ) → ((i : ℕ) → i < n → getD t i 0 ≡ getD u i 0) → ((i : ℕ) → i < n → getD h i 0 ≡ getD k i 0)
     → lackTo n t h ≡ lackTo n u k

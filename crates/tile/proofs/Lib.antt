@@ -21,6 +21,7 @@ pub mod Places
 pub mod Narrow
 pub mod Order
 pub mod Hand
+pub mod Fourteen
 mod Example
 mod Both
 mod Rows

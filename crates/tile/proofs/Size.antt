@@ -11,7 +11,7 @@ use Rattle.tile.specs.Count.{sumTo, lackTo}
 use Rattle.tile.specs.Board.{Board}
 use Rattle.tile.specs.Target.{Target}
 use Rattle.tile.specs.Answer.{Least, Answer}
-use Rattle.tile.proofs.Counts.{sum-same, lack-sum, lack-none, none-lacked}
+use Rattle.tile.proofs.Counts.{sum-same, lack-sum, lack-none, none-lacked, lacks-all}
 use Rattle.tile.proofs.Sets.{exactly-none}
 use Rattle.tile.proofs.Built.{built-sum}
 
@@ -27,6 +27,11 @@ pub number-at-most : {b : Board} {p m x : ℕ} {h : List ℕ} → Least (b .kind
 number-at-most {h = h} least =
     let (t, tg, e) = least .some in
     omega (arith, target-lack h tg)
+
+-- and it is as large as that only where the hand holds no kind of any target
+pub number-most : {b : Board} {p m x : ℕ} {h t : List ℕ} → Least (b .kinds) (Target b p m) h x → 3 * m + 2 * p ≤ x → Target b p m t
+    → (i : ℕ) → i < b .kinds → 0 < getD t i 0 → getD h i 0 ≡ 0
+number-most {b} {h = h} {t = t} least all tg = lacks-all (b .kinds) t h (omega (arith, least .none-fewer t tg, target-size tg))
 
 module _ {n : ℕ} {G : List ℕ → Type 0} {h : List ℕ} where
   -- the number is 0 exactly when the hand holds a target
