@@ -12,23 +12,23 @@ use Rattle.hand.proofs.whole.whole.Tie as tie
 merge-requires : tie.Need-merge-requires
 merge-requires c κs =
     let (k, m, p, s, z) = c .before .before .pre in
-    (wider (omega arith) (low-under 0 (c .before .entry-of .ensures) m), wider (omega arith) (low-under 9 (c .entry-of2 .ensures) p))
+    (wider (omega arith) (low-under _ (c .before .entry-of .ensures) m), wider (omega arith) (low-under _ (c .entry-of2 .ensures) p))
 
 merge-requires-2 : tie.Need-merge-requires-2
 merge-requires-2 c κs =
     let two = c .before .before in
     let (k, m, p, s, z) = two .before .before .pre in
-    let mp = entry-under (c .before .merge .ensures) (low-under 0 (two .before .entry-of .ensures) m) (low-under 9 (two .entry-of2 .ensures) p) in
-    (wider (omega arith) mp, wider (omega arith) (low-under 18 (c .entry-of3 .ensures) s))
+    let mp = entry-under (c .before .merge .ensures) (low-under _ (two .before .entry-of .ensures) m) (low-under _ (two .entry-of2 .ensures) p) in
+    (wider (omega arith) mp, wider (omega arith) (low-under _ (c .entry-of3 .ensures) s))
 
 goal-of-requires : tie.Need-goal-of-requires
 goal-of-requires c κs =
     let three = c .before .before in
     let two = three .before .before in
     let (k, m, p, s, z) = two .before .before .pre in
-    let mp = entry-under (three .before .merge .ensures) (low-under 0 (two .before .entry-of .ensures) m) (low-under 9 (two .entry-of2 .ensures) p) in
-    let mps = entry-under (c .before .merge2 .ensures) mp (low-under 18 (three .entry-of3 .ensures) s) in
-    (omega arith, k, wider (omega arith) mps, wider (omega arith) (low-under 27 (c .entry-of4 .ensures) z))
+    let mp = entry-under (three .before .merge .ensures) (low-under _ (two .before .entry-of .ensures) m) (low-under _ (two .entry-of2 .ensures) p) in
+    let mps = entry-under (c .before .merge2 .ensures) mp (low-under _ (three .entry-of3 .ensures) s) in
+    (omega arith, k, wider (omega arith) mps, wider (omega arith) (low-under _ (c .entry-of4 .ensures) z))
 
 returns : tie.Need-returns
 unfolding handMerged
