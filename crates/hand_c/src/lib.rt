@@ -3,9 +3,9 @@
 mod words;
 
 ghost use Rattle.hand_c.specs.Words.{Written};
-use crate::words::code_of;
 use crate::words::words_of;
 use hand::entry::answer;
+use tile::one_hand::code_of;
 
 // The number of a refusal, or 0 for an answer, is returned; the answer is three words. A place for more or fewer words is refused with 8
 // and left as it is (01 "Refusal numbers").

@@ -1,9 +1,7 @@
-// An answer as three words, and its number (01 "Refusal numbers").
+// An answer as three words (01 "Refusal numbers").
 ghost use mathlib.Core.Path.{_≡_};
-ghost use Rattle.tile.specs.Hand.{handValues};
 ghost use Rattle.hand_c.specs.Words.{wordsOf};
 use tile::one_hand::HandAnswer;
-use tile::refusal::code;
 use tile::refusal::index;
 
 // Where the parts of the first word begin: powers of two in place of shifts, which a proof would have to take apart.
@@ -23,14 +21,5 @@ pub(crate) fn words_of(answer: HandAnswer) -> [u64; 3]
             found.unnecessary,
         ],
         HandAnswer::Refused(reason) => [(index(reason) % 256) as u64 * INDEX, 0, 0],
-    }
-}
-
-pub(crate) fn code_of(answer: HandAnswer) -> u8
-    ensures { λ r. ⌜ r ≡ handValues answer .code ⌝ }
-{
-    match answer {
-        HandAnswer::Answered(_) => 0,
-        HandAnswer::Refused(reason) => code(reason),
     }
 }

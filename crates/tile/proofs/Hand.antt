@@ -4,7 +4,7 @@ use mathlib.Core.Path.{_≡_, refl, ap, subst, _∙_, sym}
 use mathlib.Core.Logic.{_↔_}
 use mathlib.Core.Bool.{Bool, true, false, not}
 use mathlib.Core.List.{List}
-use Prim.Native.Nat.{ℕ, _+_, _*_, _≤_, _<_}
+use Prim.Native.Nat.{ℕ, _+_, _*_, _≤_, _<_, _^_}
 use native.Mathlib.Omega.{arith}
 use lib.ListN.{getD}
 use lib.Dec.{T, eqb}
@@ -72,12 +72,18 @@ three-sets {k} {h} {r} (none, right) i l m = (
   λ has. let (t, tg, e, fewer) = right .answer .unnecessary .sound i (omega arith) has in omega (arith, three-outer none i l m),
 )
 
--- ---- refusals
+-- ---- how large the parts are
 
 -- both games have 34 tiles
 pub whole-kinds : (three-player : Bool) → wholeOf three-player .kinds ≡ 34
 whole-kinds false = refl
 whole-kinds true = refl
+
+-- and so both sets have at most 34 bits
+pub hand-sets : (game k : ℕ) (h : List ℕ) (r : HandFound) → HandPromised game k h (Answered r) → (r .necessary < 2 ^ 34) × (r .unnecessary < 2 ^ 34)
+hand-sets game k h r (none, right) =
+    let bits = ap (λ (n : ℕ). 2 ^ n) (whole-kinds (eqb game 3)) in
+    (subst (λ (n : ℕ). r .necessary < n) bits (right .answer .necessary .small), subst (λ (n : ℕ). r .unnecessary < n) bits (right .answer .unnecessary .small))
 
 -- the index that comes back with a refusal is one of them
 pub hand-index : (game k : ℕ) (h : List ℕ) (q : Reason) → HandPromised game k h (Refused q) → indexOf q < 34

@@ -38,7 +38,7 @@ mod tests {
     use crate::hand::Hand;
     use crate::{merged, record};
 
-    const ANSWERS: &[u8] = include_bytes!("../../vectors/table.answers");
+    const ANSWERS: &[u8] = include_bytes!("../../../examples/table.answers");
     const ALL: u64 = (1 << 34) - 1;
 
     fn record(row: usize) -> &'static [u8] {

@@ -16,7 +16,7 @@ const SEED: u64 = 3;
 const COUNT: usize = 2_200;
 
 /// The answers of document 01's table, in its own records.
-const TABLE: &[u8] = include_bytes!("../../../vectors/table.answers");
+const TABLE: &[u8] = include_bytes!("../../../../examples/table.answers");
 
 /// The same questions in their groups, made once for all tests.
 static GROUPS: LazyLock<[Vec<Question>; 7]> = LazyLock::new(|| groups(SEED, COUNT));

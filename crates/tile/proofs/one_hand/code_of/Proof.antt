@@ -1,8 +1,8 @@
--- `hand_c::words::code_of` meets its contract, variant by variant.
+-- `tile::one_hand::code_of` meets its contract, variant by variant.
 -- Assumes nothing.
 use borrow.Author.Needs.{needs}
-use Rattle.hand_c.proofs.words.code_of.Statement.{statement}
-use Rattle.hand_c.proofs.words.code_of.Tie as tie
+use Rattle.tile.proofs.one_hand.code_of.Statement.{statement}
+use Rattle.tile.proofs.one_hand.code_of.Tie as tie
 
 returns : tie.Need-returns
 returns c = rw (c .enum-told .given .1)
