@@ -1,4 +1,4 @@
-//! Ours, by the C interfaces of the proved libraries.
+//! Ours, by the C interface of the proved library.
 
 use oracle::hand::question::Question;
 use oracle::suit::Goal;

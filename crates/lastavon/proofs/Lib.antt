@@ -1,0 +1,5 @@
+pub mod HandOnce
+pub mod HandParts
+pub mod SuitOnce
+pub mod SuitParts
+mod Three
