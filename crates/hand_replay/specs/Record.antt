@@ -1,13 +1,11 @@
 -- The sixteen bytes of an answer: 0, or the number of a refusal; the index of a refusal; the number, the kinds, the live tiles; zero;
 -- the necessary and the unnecessary set, five bytes each, lowest byte first.
 -- Assumes nothing.
-use mathlib.Core.List.{List, [], _∷_, _++_}
-use Prim.Native.Nat.{ℕ, _/_, _%_, _^_}
+use mathlib.Core.List.{List, _∷_, _++_}
+use Prim.Native.Nat.{ℕ, _%_}
 use Rattle.tile.specs.Hand.{handValues}
 use Rattle.tile.specs.declared.one_hand.HandAnswer.{HandAnswer}
-
-abbrev pub setBytes : ℕ → List ℕ
-setBytes s = s % 256 ∷ s / 2 ^ 8 % 256 ∷ s / 2 ^ 16 % 256 ∷ s / 2 ^ 24 % 256 ∷ s / 2 ^ 32 % 256 ∷ []
+use Rattle.records.specs.Record.{setBytes}
 
 abbrev pub recordOf : HandAnswer → List ℕ
 recordOf a =

@@ -1,22 +1,10 @@
 // An answer as sixteen bytes.
 ghost use mathlib.Core.Path.{_≡_};
-ghost use Rattle.hand_replay.specs.Record.{setBytes, recordOf};
+ghost use Rattle.hand_replay.specs.Record.{recordOf};
+use records::bytes::set_bytes;
 use tile::one_hand::HandAnswer;
 use tile::refusal::code;
 use tile::refusal::index;
-
-// The lowest five bytes of a set, which is all of it: there are 34 tiles.
-fn set_bytes(set: u64) -> [u8; 5]
-    ensures { λ r. ⌜ r ≡ setBytes set ⌝ }
-{
-    [
-        (set % 256) as u8,
-        (set / 256 % 256) as u8,
-        (set / 65536 % 256) as u8,
-        (set / 16777216 % 256) as u8,
-        (set / 4294967296 % 256) as u8,
-    ]
-}
 
 pub(crate) fn record_of(answer: HandAnswer) -> [u8; 16]
     ensures { λ r. ⌜ r ≡ recordOf answer ⌝ }

@@ -18,7 +18,7 @@ pub const BROKEN: u8 = 7;
 pub const NO_ROOM: u8 = 8;
 
 // The lowest five bytes of a set, which is all of it: there are 34 tiles.
-fn set_bytes(set: u64) -> [u8; 5]
+pub fn set_bytes(set: u64) -> [u8; 5]
     ensures { λ r. ⌜ r ≡ setBytes set ⌝ }
 {
     [

@@ -72,6 +72,10 @@ three-sets {k} {h} {r} (none, right) i l m = (
   λ has. let (t, tg, e, fewer) = right .answer .unnecessary .sound i (omega arith) has in omega (arith, three-outer none i l m),
 )
 
+-- the games 3 and 4 are known
+pub games-known : (game : ℕ) → 3 ≤ game → game ≤ 4 → Unknown game → ⊥
+games-known game l m (not-3, not-4) = omega arith
+
 -- ---- how large the parts are
 
 -- both games have 34 tiles

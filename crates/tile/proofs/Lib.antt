@@ -24,4 +24,3 @@ pub mod Hand
 pub mod Fourteen
 mod Example
 mod Both
-mod Rows

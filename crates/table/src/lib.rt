@@ -1,0 +1,1 @@
+// One suit's answers without a search, as definitions and theorems: no code.
