@@ -6,7 +6,6 @@ use Prim.Native.Nat.{ℕ, _+_, _*_, _/_, _%_, _^_, _<_}
 use native.Mathlib.Omega.{arith}
 use lib.ListN.{length, getD}
 use Rattle.tile.specs.Hand.{handValues, HandPromised}
-use Rattle.tile.specs.declared.one_hand.HandFound.{HandFound}
 use Rattle.tile.specs.declared.one_hand.HandAnswer.{HandAnswer}
 use Rattle.tile.specs.declared.one_hand.HandAnswer.the-variants.{Answered, Refused}
 use Rattle.tile.proofs.Hand.{hand-sets}

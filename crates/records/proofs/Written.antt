@@ -8,7 +8,7 @@ use Rattle.tile.specs.Hand.{handValues, HandPromised}
 use Rattle.tile.specs.declared.refusal.Reason.{Reason}
 use Rattle.tile.specs.declared.one_hand.HandAnswer.{HandAnswer}
 use Rattle.tile.specs.declared.one_hand.HandAnswer.the-variants.{Refused}
-use Rattle.records.specs.Record.{recordOf, codeRecord, Answers, Put, Recorded}
+use Rattle.records.specs.Record.{recordOf, codeRecord, Put, Recorded}
 use Rattle.records.specs.Record.Answers.{whole, broken}
 use Rattle.records.specs.Record.Put.{placed, kept}
 use Rattle.records.specs.Record.Recorded.{written}
