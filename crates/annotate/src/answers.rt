@@ -19,7 +19,7 @@ pub(crate) fn answers(hands: &[u8], out: &mut [u8]) -> usize
     requires { ⌜ pieces (now hands) * 16 ≤ length (now out) ⌝ }
     ensures { λ r. ⌜ Filled (now (hands .entry)) (now (out .entry)) r (now (out .exit)) ⌝ }
 {
-    let n = (hands.len() + 35) / HAND;
+    let n = (hands.len() + (HAND - 1)) / HAND;
     let mut i = 0;
     while i < n {
         let from = i * HAND;

@@ -1,32 +1,35 @@
 // Reading hand records from standard input.
-ghost use mathlib.Core.Path.{_≡_};
-ghost use lib.ListN.{length};
 ghost use Rattle.io.specs.Counts.{Counts};
 use libc::STDIN_FILENO;
 use records::bytes::HAND;
 
-// Room for 1,820 hand records, 64 KiB less 16 bytes.
-pub(crate) fn hand_buffer() -> [u8; 65520]
-    ensures { λ r. ⌜ 65520 ≡ length r ⌝ }
-{
-    [0; 65520]
+// What was read: so many bytes at the start of the room, and whether there may be more.
+pub(crate) struct Part {
+    pub(crate) bytes: usize,
+    pub(crate) more: bool,
 }
 
-// Reads what is there, and the rest of a record that is there in part: so a caller who sends one record and waits is answered at once. The number
-// of bytes is returned: 0 at the end, and no multiple of a record's only where the input ends within a record.
-pub(crate) fn fill(buf: &mut [u8]) -> usize
-    requires { ⌜ length (now buf) ≡ 65520 ⌝ }
-    ensures { λ r. ⌜ Counts r (now (buf .exit)) ⌝ }
+// Reads what is there, and where that ends within a record on until it does not: so a caller who sends a record and waits is answered at once.
+// At the end of the input the last piece may be broken. Where reading fails, only whole records count, since the rest of one may still stand
+// there; a line on standard error says why.
+pub(crate) fn fill(room: &mut [u8]) -> Part
+    ensures { λ r. ⌜ Counts (r .bytes) (now (room .exit)) ⌝ }
 {
-    let got = libc::read(STDIN_FILENO, buf);
-    if got < 0 {
-        os::fail(b"annotate: reading hands");
+    let mut done = 0;
+    while done < room.len() {
+        let got = libc::read(STDIN_FILENO, &mut room[done..]);
+        if got < 0 {
+            os::fail(b"annotate: reading hands");
+            return Part { bytes: done - done % HAND, more: false };
+        }
+        let n = io::count(got, &room[done..]);
+        if n == 0 {
+            return Part { bytes: done, more: false };
+        }
+        done += n;
+        if done % HAND == 0 {
+            return Part { bytes: done, more: true };
+        }
     }
-    let n = io::count(got, buf);
-    let over = n % HAND;
-    if over == 0 {
-        return n;
-    }
-    let more = io::read_full(STDIN_FILENO, &mut buf[n..n + (HAND - over)]);
-    n + more
+    Part { bytes: done, more: true }
 }

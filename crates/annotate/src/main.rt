@@ -3,34 +3,26 @@
 mod answers;
 mod input;
 mod reply;
+mod room;
 
-ghost use mathlib.Core.Path.{_≡_};
-ghost use lib.ListN.{length};
 use crate::answers::answers;
 use crate::input::fill;
-use crate::input::hand_buffer;
+use crate::room::answer_room;
+use crate::room::hand_room;
 use libc::STDOUT_FILENO;
-use records::bytes::HAND;
-
-// Room for the answers of as many records as `hand_buffer` holds. The contract gives the length alone: a proof that sees all the zeros computes
-// with them.
-fn answer_buffer() -> [u8; 29120]
-    ensures { λ r. ⌜ 29120 ≡ length r ⌝ }
-{
-    [0; 29120]
-}
 
 // Answers one part of the input, and returns whether there may be more. What cannot be written ends the program, with a line on standard error.
 fn turn() -> bool {
-    let mut hands = hand_buffer();
-    let mut out = answer_buffer();
-    let n = fill(&mut hands);
+    let mut hands = hand_room();
+    let mut out = answer_room();
+    let part = fill(&mut hands);
+    let n = part.bytes;
     let made = answers(&hands[..n], &mut out);
     if !io::write_all(STDOUT_FILENO, &out[..made]) {
         os::fail(b"annotate: writing answers");
         return false;
     }
-    n > 0 && n % HAND == 0
+    part.more
 }
 
 // A proved loop has to end: this one counts its parts down, from a number that no run uses up.

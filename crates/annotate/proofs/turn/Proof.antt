@@ -31,5 +31,4 @@ turn-spec =
     (λ c. search needs)
     (λ c κs. search needs)
     (λ c. search needs)
-    (λ c. search needs)
     (λ c. search needs))

@@ -53,6 +53,7 @@ answers-spec =
     Inv-loop
     μ-loop
     (λ c. search needs)
+    (λ c. search needs)
     (λ c. (search needs, refl, after-none _ _))
     (λ c. search needs)
     (λ c. search needs)
