@@ -20,16 +20,28 @@ pub(crate) fn fill(room: &mut [u8]) -> Part
         let got = libc::read(STDIN_FILENO, &mut room[done..]);
         if got < 0 {
             os::fail(b"annotate: reading hands");
-            return Part { bytes: done - done % HAND, more: false };
+            return Part {
+                bytes: done - done % HAND,
+                more: false,
+            };
         }
         let n = io::count(got, &room[done..]);
         if n == 0 {
-            return Part { bytes: done, more: false };
+            return Part {
+                bytes: done,
+                more: false,
+            };
         }
         done += n;
         if done % HAND == 0 {
-            return Part { bytes: done, more: true };
+            return Part {
+                bytes: done,
+                more: true,
+            };
         }
     }
-    Part { bytes: done, more: true }
+    Part {
+        bytes: done,
+        more: true,
+    }
 }

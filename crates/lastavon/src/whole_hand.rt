@@ -3,7 +3,11 @@
 ghost use Rattle.lastavon.specs.Words.{Written};
 use crate::hand_words::words_of;
 use hand::entry::answer;
+use records::bytes::NO_ROOM;
 use tile::one_hand::code_of;
+
+// How many words an answer has.
+const WORDS: usize = 3;
 
 // The number of a refusal, or 0 for an answer, is returned; the answer is three words. A place for more or fewer words
 // is refused with 8 and left as it is (01 "Refusal numbers").
@@ -11,8 +15,8 @@ use tile::one_hand::code_of;
 pub extern "C" fn lastavon_hand(counts: &[u8], k: u8, game: u8, words: &mut [u64]) -> u8
     ensures { λ r. ⌜ Written game k (now (counts .entry)) (now (words .entry)) r (now (words .exit)) ⌝ }
 {
-    if words.len() != 3 {
-        return 8;
+    if words.len() != WORDS {
+        return NO_ROOM;
     }
     let found = answer(counts, k, game);
     let values = words_of(found);

@@ -8,7 +8,7 @@ use lib.ListN.{length, getD}
 use Rattle.tile.specs.Hand.{handValues, HandPromised}
 use Rattle.tile.specs.declared.one_hand.HandAnswer.{HandAnswer}
 use Rattle.tile.specs.declared.one_hand.HandAnswer.the-variants.{Answered, Refused}
-use Rattle.tile.proofs.Hand.{hand-sets}
+use Rattle.tile.proofs.Hand.{hand-small}
 use Rattle.records.specs.Record.{setBytes, recordOf}
 
 -- the set whose five bytes begin at byte i
@@ -40,5 +40,5 @@ pub record-parts : (game k : ℕ) (h : List ℕ) (a : HandAnswer) → HandPromis
 record-parts game k h (Refused q) p =
     record { long = refl; code = refl; number = refl; necessary = refl; unnecessary = refl; kinds = refl; live = refl }
 record-parts game k h (Answered r) p =
-    let (n, u) = hand-sets game k h r p in
-    record { long = refl; code = refl; number = refl; necessary = bytes-again (r .necessary) n; unnecessary = bytes-again (r .unnecessary) u; kinds = refl; live = refl }
+    let small = hand-small game k h r p in
+    record { long = refl; code = refl; number = refl; necessary = bytes-again (r .necessary) (small .necessary); unnecessary = bytes-again (r .unnecessary) (small .unnecessary); kinds = refl; live = refl }

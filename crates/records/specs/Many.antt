@@ -2,17 +2,17 @@
 -- Assumes nothing.
 use mathlib.Core.Path.{_≡_}
 use mathlib.Core.List.{List, [], _++_}
-use Prim.Native.Nat.{ℕ, zero, suc, _+_, _*_, _/_}
+use Prim.Native.Nat.{ℕ, zero, suc, _+_, _-_, _*_, _/_}
 use lib.ListN.{length, take, drop}
-use Rattle.records.specs.Record.{Answers}
+use Rattle.records.specs.Record.{handBytes, Answers}
 
 -- how many pieces h has: its whole records, and a last piece of 1 to 35 bytes if there is one
 abbrev pub pieces : List ℕ → ℕ
-pieces h = (length h + 35) / 36
+pieces h = (length h + (handBytes - 1)) / handBytes
 
 -- piece i: 36 bytes, or what is left
 abbrev pub piece : ℕ → List ℕ → List ℕ
-piece i h = take 36 (drop (i * 36) h)
+piece i h = take handBytes (drop (i * handBytes) h)
 
 -- w is the answer records of the first n pieces of h, one after the other
 unfoldable pub AnswersTo : ℕ → List ℕ → List ℕ → Type 0

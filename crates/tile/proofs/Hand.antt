@@ -25,6 +25,7 @@ use Rattle.tile.proofs.Unique.{least-once, answer-once}
 use Rattle.tile.proofs.Promise.{fault-once, index-inside}
 use Rattle.tile.proofs.Accepted.{fault-as, accepted}
 use Rattle.tile.proofs.Size.{number-at-most, number-zero}
+use Rattle.tile.proofs.Tally.{kinds-at-most, live-at-most}
 use Rattle.tile.proofs.Narrow.{Outer, three-player}
 
 -- ---- one result
@@ -83,11 +84,25 @@ pub whole-kinds : (three-player : Bool) → wholeOf three-player .kinds ≡ 34
 whole-kinds false = refl
 whole-kinds true = refl
 
--- and so both sets have at most 34 bits
-pub hand-sets : (game k : ℕ) (h : List ℕ) (r : HandFound) → HandPromised game k h (Answered r) → (r .necessary < 2 ^ 34) × (r .unnecessary < 2 ^ 34)
-hand-sets game k h r (none, right) =
-    let bits = ap (λ (n : ℕ). 2 ^ n) (whole-kinds (eqb game 3)) in
-    (subst (λ (n : ℕ). r .necessary < n) bits (right .answer .necessary .small), subst (λ (n : ℕ). r .unnecessary < n) bits (right .answer .unnecessary .small))
+-- what is answered fits into a byte for each number and 34 bits for each set
+pub record HandSmall (r : HandFound) : Type 0 where
+  pub number : r .number ≤ 14
+  pub necessary : r .necessary < 2 ^ 34
+  pub unnecessary : r .unnecessary < 2 ^ 34
+  pub kinds : r .kinds ≤ 34
+  pub live : r .live ≤ 136
+
+pub hand-small : (game k : ℕ) (h : List ℕ) (r : HandFound) → HandPromised game k h (Answered r) → HandSmall r
+hand-small game k h r (none, right) =
+    let all = whole-kinds (eqb game 3) in
+    let bits = ap (λ (n : ℕ). 2 ^ n) all in
+    record {
+      number = omega (arith, hand-number right, accepted (λ q x. none q (fault-as (boardOfGame game) 1 k h absurd q x)) .melds);
+      necessary = subst (λ (n : ℕ). r .necessary < n) bits (right .answer .necessary .small);
+      unnecessary = subst (λ (n : ℕ). r .unnecessary < n) bits (right .answer .unnecessary .small);
+      kinds = omega (arith, all, right .kinds, kinds-at-most (boardOfGame game .kinds) (r .necessary));
+      live = omega (arith, all, right .live, live-at-most (r .necessary) h (boardOfGame game .kinds));
+    }
 
 -- the index that comes back with a refusal is one of them
 pub hand-index : (game k : ℕ) (h : List ℕ) (q : Reason) → HandPromised game k h (Refused q) → indexOf q < 34

@@ -2,7 +2,7 @@
 -- Assumes nothing.
 use mathlib.Core.Path.{_≡_, refl, sym, ap, _∙_}
 use mathlib.Core.List.{List}
-use Prim.Native.Nat.{ℕ, _^_, _<_}
+use Prim.Native.Nat.{ℕ, _+_, _*_, _^_, _≤_, _<_}
 use native.Mathlib.Omega.{arith}
 use lib.ListN.{getD, replicate}
 use lib.Pow.{pow-pos}
@@ -36,6 +36,11 @@ module _ {b : Board} {bound p m : ℕ} {h : List ℕ} {r : Found} where
   pub right-some : {t : List ℕ} → Target b p m t → Right b bound p m h r → Answer (b .kinds) (Target b p m) h (r .number) (r .necessary) (r .unnecessary)
   right-some tg (answer a) = a
   right-some {t} tg (no-target none e) = absurd (none t tg)
+
+  -- the number is no more than the bound
+  pub right-number : 3 * m + 2 * p ≤ bound → Right b bound p m h r → r .number ≤ bound
+  right-number room (answer a) = omega (arith, number-at-most (a .number))
+  right-number room (no-target none e) = omega (arith, ap (λ (x : Found). x .number) e)
 
   -- the sets have no kinds beyond the board's
   pub right-small : Right b bound p m h r → (r .necessary < 2 ^ b .kinds) × (r .unnecessary < 2 ^ b .kinds)

@@ -43,6 +43,12 @@ ones-below (suc n) s =
 pub ones-kinds : (n s : ℕ) → s < 2 ^ n → ones s ≡ kindsTo n s
 ones-kinds n s l = ap ones (sym (mod-eq-of-lt l)) ∙ ones-below n s
 
+-- no more than there are
+pub kinds-at-most : (n s : ℕ) → kindsTo n s ≤ n
+unfolding kindsTo
+kinds-at-most zero s = omega arith
+kinds-at-most (suc n) s = omega (arith, kinds-at-most n s)
+
 -- ---- live tiles
 
 module _ (s : ℕ) (h : List ℕ) where
