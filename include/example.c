@@ -3,15 +3,19 @@
 
 #include "lastavon.h"
 
+/* The ranks of a suit before its letter, as in 19m1p; - where there is none. */
 static void print_tiles(const char *name, uint64_t set)
 {
     unsigned i;
-    printf("  %s ", name);
-    if (set == 0)
-        printf("-");
-    for (i = 0; i < LASTAVON_TILES; i++)
-        if (lastavon_has(set, i))
-            printf("%u%c", i % 9 + 1, "mpsz"[i / 9]);
+    printf("  %s %s", name, set == 0 ? "-" : "");
+    for (i = 0; i < LASTAVON_TILES; i++) {
+        uint64_t after = set >> i >> 1 & ((1u << (8 - i % 9)) - 1); /* what follows in the same suit */
+        if (lastavon_has(set, i)) {
+            printf("%u", i % 9 + 1);
+            if (after == 0)
+                printf("%c", "mpsz"[i / 9]);
+        }
+    }
 }
 
 int main(void)

@@ -28,7 +28,8 @@ function answer() {
     return "number " $(bar + 2) "  necessary " necessary "  unnecessary " set(bar + 8) "  kinds " $(bar + 13) "  live " $(bar + 14)
 }
 
-# The record has the number alone; the tile that 4 and 6 are laid to is the lowest one at fault.
+# The record has the number alone. The tile that 4 and 6 are laid to, the lowest one at fault, is found here and is not from
+# the proved program.
 function refusal(code,    fault) {
     fault = why[code]
     for (i = 0; i < 34; i++) {

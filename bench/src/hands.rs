@@ -1,6 +1,6 @@
 //! Whole hands: our hand entry beside the Rust source, without maps and with them.
 
-mod groups;
+pub mod groups;
 mod sides;
 
 use std::hint::black_box;
@@ -72,9 +72,10 @@ fn print_rates(times: &Times) {
     println!();
 }
 
-struct Hands {
-    name: &'static str,
-    hands: Vec<Hand>,
+/// Hands that are measured together.
+pub struct Hands {
+    pub name: &'static str,
+    pub hands: Vec<Hand>,
 }
 
 impl Group for Hands {

@@ -1,11 +1,13 @@
-//! Our search and our hand entry, proved and compiled, beside the Rust source: compared, and
-//! measured.
+//! Our search, our entries and our program, proved and compiled, beside the Rust source:
+//! compared, and measured.
 
 pub mod clock;
 pub mod compare;
+pub mod fuzz;
 pub mod group;
 pub mod hands;
 pub mod ours;
+pub mod program;
 pub mod reply;
 pub mod suits;
 pub mod times;

@@ -1,7 +1,9 @@
 //! Ours, by the C interface of the proved library.
 
+use std::ptr;
+
 use oracle::hand::question::Question;
-use oracle::suit::Goal;
+use oracle::suit::{Goal, Suit};
 
 /// Number in bits 0 to 7, necessary set in 8 to 23, unnecessary set in 24 to 39, index of a
 /// refusal in 40 to 47, code in 48 to 55.
@@ -20,10 +22,27 @@ unsafe extern "C" {
         out: *mut u64,
         out_len: usize,
     ) -> u8;
+
+    fn lastavon_record(hand: *const u8, length: usize, answer: *mut u8, room: usize) -> u8;
 }
 
 // Each call lends the counts for its own time, as many as it names, and any bytes will do:
 // a public function takes every input. So it is with the room for the answer.
+
+/// Where nothing is lent, nowhere: that too may be handed over.
+fn place<T>(lent: &[T]) -> *const T {
+    match lent {
+        [] => ptr::null(),
+        _ => lent.as_ptr(),
+    }
+}
+
+fn room_place<T>(lent: &mut [T]) -> *mut T {
+    match lent {
+        [] => ptr::null_mut(),
+        _ => lent.as_mut_ptr(),
+    }
+}
 
 #[inline]
 pub fn ranks(counts: &[u8; 9], goal: Goal) -> Word {
@@ -40,14 +59,31 @@ pub fn ends(counts: &[u8; 9], goal: Goal) -> Word {
     unsafe { lastavon_ends(counts.as_ptr(), 9, goal.pairs, goal.melds) }
 }
 
+/// A suit with any counts, as many as there are.
+pub fn suit(suit: Suit, counts: &[u8], goal: Goal) -> Word {
+    let asked = match suit {
+        Suit::Ranks => lastavon_ranks,
+        Suit::Honours => lastavon_honours,
+        Suit::Ends => lastavon_ends,
+    };
+    unsafe { asked(place(counts), counts.len(), goal.pairs, goal.melds) }
+}
+
 /// Gives the code. The answer is written into the three words of `room`, as `Reply` has it;
 /// if there are more or fewer, the code is 8 and nothing is written.
 #[inline]
 pub fn hand(counts: &[u8], k: u8, game: u8, room: &mut [u64]) -> u8 {
-    let (out, out_len) = (room.as_mut_ptr(), room.len());
-    unsafe { lastavon_hand(counts.as_ptr(), counts.len(), k, game, out, out_len) }
+    let (out_len, out) = (room.len(), room_place(room));
+    unsafe { lastavon_hand(place(counts), counts.len(), k, game, out, out_len) }
 }
 
 pub fn asked(question: &Question, room: &mut [u64]) -> u8 {
     hand(&question.counts, question.k, question.game, room)
+}
+
+/// Gives the code. The answer record is written into the sixteen bytes of `room`; if there are
+/// more or fewer, the code is 8 and nothing is written.
+pub fn record(piece: &[u8], room: &mut [u8]) -> u8 {
+    let (out_len, out) = (room.len(), room_place(room));
+    unsafe { lastavon_record(place(piece), piece.len(), out, out_len) }
 }

@@ -12,6 +12,9 @@ pub(crate) mod sealed {
         /// How many there are.
         const COUNT: usize;
 
+        /// The letter of each suit; a rank stands in one suit, and has none.
+        const SUITS: [&'static str; 4];
+
         // The words in which a refusal speaks of them.
         const NOUN: &'static str;
         const GOAL: &'static str;

@@ -30,6 +30,7 @@ impl Place for Rank {}
 
 impl Kind for Rank {
     const COUNT: usize = 9;
+    const SUITS: [&'static str; 4] = [""; 4];
     const NOUN: &'static str = "rank";
     const GOAL: &'static str = "more than one pair or more than four melds are wanted";
     const LENGTH: &'static str = "there are not as many counts as the suit has ranks";

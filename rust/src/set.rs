@@ -13,7 +13,7 @@ pub type Tiles = Set<Tile>;
 /// A set of ranks of one suit.
 pub type Ranks = Set<Rank>;
 
-/// A set, shown as in "7m 1p"; the empty one as "-".
+/// A set, shown as in "19m1p", ranks of a suit before its letter; the empty one as "-".
 #[derive(Clone, Copy, Debug, PartialEq, Eq, Hash)]
 pub struct Set<P: Place> {
     bits: u64,
@@ -89,9 +89,13 @@ impl<P: Place> fmt::Display for Set<P> {
         if self.is_empty() {
             return write!(out, "-");
         }
-        for (i, place) in self.iter().enumerate() {
-            let space = if i == 0 { "" } else { " " };
-            write!(out, "{space}{place}")?;
+        let mut rest = self.iter().peekable();
+        while let Some(place) = rest.next() {
+            let suit = place.place() / 9;
+            write!(out, "{}", place.place() % 9 + 1)?;
+            if rest.peek().map(|next| next.place() / 9) != Some(suit) {
+                out.write_str(P::SUITS[suit])?;
+            }
         }
         Ok(())
     }

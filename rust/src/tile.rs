@@ -23,7 +23,7 @@ impl Tile {
 
 impl fmt::Display for Tile {
     fn fmt(&self, out: &mut fmt::Formatter) -> fmt::Result {
-        let suit = ['m', 'p', 's', 'z'][self.index() / 9];
+        let suit = Self::SUITS[self.index() / 9];
         write!(out, "{}{suit}", self.index() % 9 + 1)
     }
 }
@@ -32,6 +32,7 @@ impl Place for Tile {}
 
 impl Kind for Tile {
     const COUNT: usize = 34;
+    const SUITS: [&'static str; 4] = ["m", "p", "s", "z"];
     const NOUN: &'static str = "tile";
     const GOAL: &'static str = "k is over 4";
     const LENGTH: &'static str = "there are not 34 counts";

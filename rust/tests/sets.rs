@@ -33,7 +33,7 @@ fn both_sets_may_hold_a_tile() {
         (2, false, 1 | 1 << 8)
     );
     assert!(both.contains(tile(8)) && !both.contains(tile(7)));
-    assert_eq!(both.to_string(), "1m 9m");
+    assert_eq!(both.to_string(), "19m");
 }
 
 #[test]

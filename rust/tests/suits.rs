@@ -28,7 +28,7 @@ fn answers() {
     let honours = [2, 0, 0, 0, 0, 0, 1];
     assert_eq!(answered(Suit::Honours, &honours, 0, 1), told(1, "1", "7"));
     let ends = [1, 0, 0, 0, 0, 0, 0, 0, 1];
-    assert_eq!(answered(Suit::Ends, &ends, 1, 0), told(1, "1 9", "1 9"));
+    assert_eq!(answered(Suit::Ends, &ends, 1, 0), told(1, "19", "19"));
     assert_eq!(answered(Suit::Ends, &ends, 0, 3), told(14, "-", "-"));
 }
 
