@@ -6,3 +6,5 @@ pub mod Good
 pub mod Cell
 pub mod Quick
 pub mod Table
+-- Answers in words: how two of them are met.
+pub mod Meet

@@ -25,13 +25,13 @@ use Rattle.table.proofs.Quick.{quick-right}
 -- ---- lists
 
 module _ {A : Type 0} (f : ℕ → A) where
-  listed-at : (i n j : ℕ) (d : A) → j < n → getD (listed f i n) j d ≡ f (i + j)
+  pub listed-at : (i n j : ℕ) (d : A) → j < n → getD (listed f i n) j d ≡ f (i + j)
   unfolding listed
   listed-at i zero j d l = absurd (omega arith)
   listed-at i (suc n) zero d l = ap f (sym (add-zero i))
   listed-at i (suc n) (suc j) d l = listed-at (i + 1) n j d (omega arith) ∙ ap f (omega arith)
 
-  listed-length : (i n : ℕ) → length (listed f i n) ≡ n
+  pub listed-length : (i n : ℕ) → length (listed f i n) ≡ n
   unfolding listed
   listed-length i zero = refl
   listed-length i (suc n) = ap suc (listed-length (i + 1) n)
@@ -49,7 +49,7 @@ upTo-same : {f g : ℕ → Found → Found} → ((c : ℕ) (r : Found) → f c r
 upTo-same same n r = ap (λ (f : ℕ → Found → Found). upTo f n r) (λ j c r. same c r j)
 
 -- no choice begins more than two sequences
-two-at-most : (c : ℕ) → sequencesOf c ≤ 2
+pub two-at-most : (c : ℕ) → sequencesOf c ≤ 2
 two-at-most c =
     ⊎-elim (λ over. omega (arith, List·getD-eq-default sequenceTable 0 over)) (λ under. choice-small c under .0) (at-most-or-over 8 c)
 

@@ -1,2 +1,3 @@
 pub mod Cell
 pub mod Table
+pub mod Meet

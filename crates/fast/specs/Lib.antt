@@ -1,0 +1,5 @@
+pub mod Word
+pub mod Row
+pub mod Fill
+pub mod State
+pub mod Goals
