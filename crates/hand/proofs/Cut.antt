@@ -97,16 +97,16 @@ pub record AllSuits (three-player : Bool) (h : List ℕ) (m p s z : List Found) 
   pub in-s : AllRight ranks (take 9 (drop 18 h)) s
   pub in-z : AllRight honours (take 7 (drop 27 h)) z
 
+pub m-kinds : (b : Bool) → suitM b .kinds ≡ 9
+m-kinds false = refl
+m-kinds true = refl
+
 module _ (three-player : Bool) (k : ℕ) (h : List ℕ) (none : Faultless (SuitFault (wholeOf three-player) 1 k h)) where
   ok : Accepted (wholeOf three-player) 1 k h
   ok = accepted none
 
   pub hand-long : length h ≡ 34
   hand-long = ok .long ∙ whole-kinds three-player
-
-  m-kinds : (b : Bool) → suitM b .kinds ≡ 9
-  m-kinds false = refl
-  m-kinds true = refl
 
   pub all-suits : {b : Board} (m p s z : SuitGoals) → b ≡ suitM three-player → GoalsPromised b (take 9 (drop 0 h)) (m .checked) (m .goals)
       → GoalsPromised ranks (take 9 (drop 9 h)) (p .checked) (p .goals) → GoalsPromised ranks (take 9 (drop 18 h)) (s .checked) (s .goals)

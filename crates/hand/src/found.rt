@@ -10,9 +10,10 @@ ghost use Rattle.tile.specs.Suits.{suitsOf, wholeOf};
 ghost use Rattle.tile.specs.Hand.{HandRight};
 use crate::tally::kinds;
 use crate::tally::live;
+use crate::way::Way;
+use crate::way::goals_by;
 use crate::whole::whole;
 use merge::Merged;
-use suit::entry::goals;
 use tile::one_hand::HandFound;
 use tile::one_suit::Suit;
 use tile::suits::SuitM;
@@ -30,15 +31,20 @@ fn suit_m(three_player: bool) -> Suit
     Suit::Ranks
 }
 
-// Number and sets. Each suit is searched in its part of the lent counts.
-fn merged_for(counts: &[u8], k: u8, three_player: bool) -> Merged
+// Number and sets. Each suit is answered in its part of the lent counts.
+fn merged_for(way: Way, counts: &[u8], k: u8, three_player: bool) -> Merged
     requires { ⌜ (length (now counts) ≡ 34) × Faultless (SuitFault (wholeOf «three_player») 1 k (now counts)) ⌝ }
     ensures { λ r. ⌜ Answer 34 (Target (wholeOf «three_player») 1 k) (now (counts .entry)) (r .number) (r .necessary) (r .unnecessary) ⌝ }
 {
-    let m = goals(suit_m(three_player), &counts[SuitM::OFFSET..SuitP::OFFSET]);
-    let p = goals(Suit::Ranks, &counts[SuitP::OFFSET..SuitS::OFFSET]);
-    let s = goals(Suit::Ranks, &counts[SuitS::OFFSET..SuitZ::OFFSET]);
-    let z = goals(
+    let m = goals_by(
+        way,
+        suit_m(three_player),
+        &counts[SuitM::OFFSET..SuitP::OFFSET],
+    );
+    let p = goals_by(way, Suit::Ranks, &counts[SuitP::OFFSET..SuitS::OFFSET]);
+    let s = goals_by(way, Suit::Ranks, &counts[SuitS::OFFSET..SuitZ::OFFSET]);
+    let z = goals_by(
+        way,
         Suit::Honours,
         &counts[SuitZ::OFFSET..SuitZ::OFFSET + SuitZ::LENGTH],
     );
@@ -50,11 +56,11 @@ fn merged_for(counts: &[u8], k: u8, three_player: bool) -> Merged
 }
 
 // All five values.
-pub(crate) fn found_for(counts: &[u8], k: u8, three_player: bool) -> HandFound
+pub(crate) fn found_for(way: Way, counts: &[u8], k: u8, three_player: bool) -> HandFound
     requires { ⌜ Faultless (SuitFault (wholeOf «three_player») 1 k (now counts)) ⌝ }
     ensures { λ r. ⌜ HandRight (wholeOf «three_player») k (now (counts .entry)) r ⌝ }
 {
-    let merged = merged_for(counts, k, three_player);
+    let merged = merged_for(way, counts, k, three_player);
     HandFound {
         number: merged.number,
         necessary: merged.necessary,

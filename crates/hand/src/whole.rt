@@ -2,10 +2,10 @@
 ghost use mathlib.Core.Path.{_≡_};
 ghost use Prim.Native.Nat.{_≤_};
 ghost use Rattle.merge.specs.Merge.{handMerged};
-ghost use Rattle.merge.specs.Entry.{Low};
+ghost use Rattle.hand.specs.Entry.{AllLow};
 use crate::entry_of::entry_of;
-use crate::parts::goal_of;
 use crate::parts::merge;
+use crate::words::NUMBER;
 use merge::Merged;
 use tile::found::Found;
 use tile::suits::SuitM;
@@ -21,10 +21,16 @@ pub(crate) fn whole(
     z: [Found; 10],
     k: usize,
 ) -> Merged
-    requires { ⌜ (k ≤ 4) × Low 14 m × Low 14 p × Low 14 s × Low 14 z ⌝ }
+    requires { ⌜ (k ≤ 4) × AllLow m p s z ⌝ }
     ensures { λ r. ⌜ r ≡ handMerged m p s z k ⌝ }
 {
     let mp = merge(entry_of(m, SuitM::OFFSET), entry_of(p, SuitP::OFFSET));
     let mps = merge(mp, entry_of(s, SuitS::OFFSET));
-    goal_of(mps, entry_of(z, SuitZ::OFFSET), 1, k)
+    let mpsz = merge(mps, entry_of(z, SuitZ::OFFSET));
+    let hand = mpsz[5 + k];
+    Merged {
+        number: (hand.necessary / NUMBER) as u8,
+        necessary: hand.necessary % NUMBER,
+        unnecessary: hand.unnecessary % NUMBER,
+    }
 }

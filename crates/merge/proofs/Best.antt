@@ -12,7 +12,7 @@ use Rattle.tile.proofs.Unique.{answer-once}
 use Rattle.tile.proofs.Answers.{Or, answer-keep, answer-as, answer-or}
 use Rattle.merge.specs.declared.Merged.{Merged}
 use Rattle.merge.specs.Merge.{better, bestTo}
-use Rattle.merge.proofs.Entries.{better-by}
+use Rattle.merge.proofs.Better.{better-by}
 
 -- r is the right answer for the hand h over n kinds, where G t says that t is a target
 abbrev pub RightFor : ℕ → (List ℕ → Type 0) → List ℕ → Merged → Type 0

@@ -22,7 +22,6 @@ use Rattle.tile.proofs.Places.{partAt}
 use Rattle.tile.proofs.Suit.{right-some}
 use Rattle.walk.proofs.Right.{ranks-some, honours-some, ends-some}
 use Rattle.merge.specs.Merge.{merged, lifted, suitAt, handMerged}
-use Rattle.merge.proofs.Entries.{right-at}
 use Rattle.merge.proofs.Best.{RightFor, right-once}
 use Rattle.merge.proofs.Right.{FoundRight, MergedRight, Known, Full, merged-right, answers-merged}
 use Rattle.merge.proofs.Right.Known.{known, stands}
@@ -57,6 +56,11 @@ three-player =
     }
 
 -- ---- the suits
+
+-- the ten goals by their pairs and melds
+right-at : {b : Board} {h : List ℕ} {e : List Found} {p m : ℕ} → AllRight b h e → p ≤ 1 → m ≤ 4 → Right b 14 p m h (getD e (5 * p + m) blank)
+right-at {b} {h} {e} {p} {m} all l k =
+    subst₂ (λ (q j : ℕ). Right b 14 q j h (getD e (5 * p + m) blank)) (omega arith) (omega arith) (all .each (5 * p + m) (omega arith))
 
 -- the suit at the start of the tiles: for a goal without a target its answer, 14 and empty sets, stands in
 first-known : {b : Board} {p m : ℕ} {h : List ℕ} {r : Found} → Right b 14 p m h r → Known b 14 p m h (lifted 0 r)

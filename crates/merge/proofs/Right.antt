@@ -25,7 +25,7 @@ use Rattle.tile.proofs.Size.{target-size, target-lack}
 use Rattle.tile.proofs.Sense.{unnecessary-held, none-necessary}
 use Rattle.merge.specs.declared.Merged.{Merged}
 use Rattle.merge.specs.Merge.{beside, better, bestTo, shared, merged, lifted}
-use Rattle.merge.proofs.Entries.{better-less, better-tie}
+use Rattle.merge.proofs.Better.{better-less, better-tie}
 use Rattle.merge.proofs.Best.{RightFor, right-once, UpTo, counts, drops, best-right}
 
 -- r is the right answer for p pairs and m melds on the board b: of a suit, and of what is merged so far

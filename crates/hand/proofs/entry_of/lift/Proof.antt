@@ -1,20 +1,14 @@
--- `hand::entry_of::lift` meets its contract: no bit is lost, since 16 and 48 make 64.
+-- `hand::entry_of::lift` meets its contract, word by word.
 -- Assumes nothing.
-use Prim.Native.Nat.{_<_, _^_}
-use native.Mathlib.Omega.{arith}
 use borrow.Author.Needs.{needs}
-use lib.Pow.{shl-exact}
 use Rattle.merge.specs.Merge.{lifted}
+use Rattle.hand.specs.Words.{packed}
 use Rattle.hand.proofs.entry_of.lift.Statement.{statement}
 use Rattle.hand.proofs.entry_of.lift.Tie as tie
 
 returns : tie.Need-returns
-unfolding lifted
-returns c =
-    let args = c .before .before .args in
-    let necessary : args .found .necessary < 2 ^ 16 = omega arith in
-    let unnecessary : args .found .unnecessary < 2 ^ 16 = omega arith in
-    rw (shl-exact 16 (args .offset) 64 necessary (omega arith), shl-exact 16 (args .offset) 64 unnecessary (omega arith))
+unfolding packed lifted
+returns c i = record { necessary = c .before .word .ensures i; unnecessary = c .word2 .ensures i }
 
 pub lift-spec : {M : Type 1} → statement M
-lift-spec = tie.close (tie.spec (λ c. search needs) (λ c. search needs) (λ c. search needs) (λ c. search needs) returns)
+lift-spec = tie.close (tie.spec (λ c κs. search needs) (λ c κs. search needs) returns)

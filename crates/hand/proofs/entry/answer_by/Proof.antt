@@ -1,10 +1,10 @@
--- `hand::entry::answer` meets its contract: a hand that is not refused has what the search requires.
+-- `hand::entry::answer_by` meets its contract: a hand that is not refused has what is required below.
 -- Assumes nothing.
 use borrow.Author.Needs.{needs}
 use Rattle.tile.specs.Hand.{boardOfGame}
 use Rattle.tile.proofs.Accepted.{fault-as}
-use Rattle.hand.proofs.entry.answer.Statement.{statement}
-use Rattle.hand.proofs.entry.answer.Tie as tie
+use Rattle.hand.proofs.entry.answer_by.Statement.{statement}
+use Rattle.hand.proofs.entry.answer_by.Tie as tie
 
 found-for-requires : tie.Need-found-for-requires
 found-for-requires c κs =
@@ -21,8 +21,8 @@ returns-2 c = (
   rw (c .before .is-three-player .ensures) at (c .found-for .ensures),
 )
 
-pub answer-spec : {M : Type 1} → statement M
-answer-spec =
+pub answer-by-spec : {M : Type 1} → statement M
+answer-by-spec =
     tie.close
     (tie.spec
     (λ c κs. search needs)
