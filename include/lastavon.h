@@ -5,9 +5,9 @@
  * Tiles have the indices 0 to 33: 1m to 9m are 0 to 8, 1p to 9p 9 to 17, 1s to 9s 18 to 26, 1z to 7z 27 to 33.
  * In a set, bit i stands for tile i, or in one suit for the suit's rank i, counted from 0.
  *
- * All five functions take any input: any bytes, any lengths, any k, game, pairs and melds. What is no hand is refused,
- * and a refusal has a number (enum lastavon_code). They keep nothing, allocate nothing, and may be called from many
- * threads at once. What they ask of a caller is this:
+ * All functions take any input: any bytes, any lengths, any k, game, pairs and melds. What is no hand is refused, and
+ * a refusal has a number (enum lastavon_code). They keep nothing, allocate nothing, and may be called from many threads
+ * at once. What they ask of a caller is this:
  *   - a pointer is valid for the length that comes with it, and a pointer to words is aligned for uint64_t;
  *     with the length 0 it may be anything, NULL too, since nothing is read or written there;
  *   - what is read and what is written do not overlap.
@@ -28,6 +28,7 @@ enum {
     LASTAVON_RANKS = 9,         /* counts of nine ranks, and of 1m/9m */
     LASTAVON_HONOURS = 7,       /* counts of the honours */
     LASTAVON_WORDS = 3,         /* words of an answer */
+    LASTAVON_GOALS = 10,        /* goals of a suit, a word each */
     LASTAVON_HAND_RECORD = 36,  /* bytes of a hand record */
     LASTAVON_ANSWER_RECORD = 16 /* bytes of an answer record */
 };
@@ -45,7 +46,7 @@ enum lastavon_code {
     LASTAVON_BAD_SUM = 5,    /* the counts sum to more than 14 */
     LASTAVON_BAD_TILE = 6,   /* 2m to 8m in game 3, or rank 2 to 8 in 1m/9m; the index is the lowest such */
     LASTAVON_BAD_RECORD = 7, /* a hand record has not 36 bytes */
-    LASTAVON_BAD_ROOM = 8    /* there is not room for 3 words, or for 16 bytes; the room is left as it was */
+    LASTAVON_BAD_ROOM = 8    /* the room is not 3 words, 10 words or 16 bytes; it is left as it was */
 };
 
 /* Where the parts of an answer record begin; bytes 14 and 15 are 0. */
@@ -70,6 +71,13 @@ enum {
 uint8_t lastavon_hand(const uint8_t *counts, size_t length, uint8_t k, uint8_t game, uint64_t *words, size_t places);
 
 /*
+ * The same answers and refusals in another way: each suit's targets are tried one after the other, where lastavon_hand
+ * fills in a table. It takes about a thousand times as long, and is here to be compared with.
+ */
+uint8_t lastavon_hand_search(const uint8_t *counts, size_t length, uint8_t k, uint8_t game, uint64_t *words,
+                             size_t places);
+
+/*
  * A hand record, answered by an answer record. Returns 0, or the number of a refusal, 1, 2 or 4 to 8.
  *   hand, length    36 bytes: 34 counts, k, the game
  *   answer, room    room for the answer; 16 bytes. For 0 it holds what LASTAVON_AT_.. name; for 1 to 7 the number of
@@ -83,10 +91,22 @@ uint8_t lastavon_record(const uint8_t *hand, size_t length, uint8_t *answer, siz
  *   counts, length  how many of each rank are held; 9, 7 and 9 counts
  *   pairs, melds    what is wanted, 0 or 1 and 0 to 4
  * More than two pairs and melds cannot be made of 1m/9m: that is no fault, and gives the number 14 and two empty sets.
+ * These search; where many goals or many suits are wanted, the functions after them are far faster.
  */
 uint64_t lastavon_ranks(const uint8_t *counts, size_t length, uint8_t pairs, uint8_t melds);
 uint64_t lastavon_honours(const uint8_t *counts, size_t length, uint8_t pairs, uint8_t melds);
 uint64_t lastavon_ends(const uint8_t *counts, size_t length, uint8_t pairs, uint8_t melds);
+
+/*
+ * The ten goals of a suit at once, from a table. Returns 0, or the number of a refusal, 3 to 6 or 8.
+ *   counts, length  as for one goal
+ *   words, places   room for the answers; 10 words. The word of each goal (lastavon_goal) is the one that is returned
+ *                   for it alone, above; where the suit is refused, all ten are the word of the refusal. For 8 nothing
+ *                   is written.
+ */
+uint8_t lastavon_ranks_goals(const uint8_t *counts, size_t length, uint64_t *words, size_t places);
+uint8_t lastavon_honours_goals(const uint8_t *counts, size_t length, uint64_t *words, size_t places);
+uint8_t lastavon_ends_goals(const uint8_t *counts, size_t length, uint64_t *words, size_t places);
 
 #ifdef __cplusplus
 }
@@ -120,6 +140,12 @@ static inline unsigned lastavon_live(uint64_t first)
 static inline unsigned lastavon_index(uint64_t first)
 {
     return (unsigned)(first >> 24 & 0xff);
+}
+
+/* Which of the ten words is that of 0 or 1 pairs and 0 to 4 melds. */
+static inline unsigned lastavon_goal(unsigned pairs, unsigned melds)
+{
+    return 5 * pairs + melds;
 }
 
 /* The parts of a suit's word: 0 or the number of a refusal, */

@@ -34,6 +34,12 @@ struct words {
     uint64_t behind[GUARD];
 };
 
+struct goals {
+    uint64_t before[GUARD];
+    uint64_t room[LASTAVON_GOALS];
+    uint64_t behind[GUARD];
+};
+
 /* Whether all bytes of a piece are as they were filled. */
 static int untouched(const void *piece, size_t size)
 {
@@ -54,20 +60,24 @@ static int all_zero(const uint8_t *bytes, size_t size)
     return 1;
 }
 
-/* Asks a whole hand; the guards must stay. */
+/* Asks a whole hand, from the table and by search, which must agree; the guards must stay. */
 static unsigned ask(const uint8_t *counts, size_t length, unsigned k, unsigned game, uint64_t *words)
 {
-    struct words out;
-    unsigned code;
+    struct words out, searched;
+    unsigned code, again;
     memset(&out, CANARY, sizeof out);
+    memset(&searched, CANARY, sizeof searched);
     code = lastavon_hand(counts, length, (uint8_t)k, (uint8_t)game, out.room, LASTAVON_WORDS);
+    again = lastavon_hand_search(counts, length, (uint8_t)k, (uint8_t)game, searched.room, LASTAVON_WORDS);
     EXPECT(untouched(out.before, sizeof out.before));
     EXPECT(untouched(out.behind, sizeof out.behind));
+    EXPECT(code == again);
+    EXPECT(memcmp(&out, &searched, sizeof out) == 0);
     memcpy(words, out.room, sizeof out.room);
     return code;
 }
 
-/* One row of the table, by both entries. */
+/* One row of the table, by all entries. */
 static void test_row(const uint8_t *hand, const uint8_t *answer)
 {
     struct bytes out;
@@ -142,6 +152,8 @@ static void test_places(void)
         memset(&out, CANARY, sizeof out);
         EXPECT(lastavon_hand(counts, 34, 4, 4, out.room, places) == LASTAVON_BAD_ROOM);
         EXPECT(lastavon_hand(counts, 33, 9, 9, out.room, places) == LASTAVON_BAD_ROOM);
+        EXPECT(lastavon_hand_search(counts, 34, 4, 4, out.room, places) == LASTAVON_BAD_ROOM);
+        EXPECT(lastavon_hand_search(counts, 33, 9, 9, out.room, places) == LASTAVON_BAD_ROOM);
         EXPECT(untouched(&out, sizeof out));
     }
 }
@@ -229,18 +241,84 @@ static void test_suit_refusals(void)
     expect_refused(lastavon_ends(barred, 9, 0, 1), LASTAVON_BAD_TILE, 4);
 }
 
+/* A suit's entry for one goal, and that for all. */
+struct suit {
+    uint64_t (*one)(const uint8_t *counts, size_t length, uint8_t pairs, uint8_t melds);
+    uint8_t (*all)(const uint8_t *counts, size_t length, uint64_t *words, size_t places);
+};
+
+static const struct suit suits[3] = {
+    {lastavon_ranks, lastavon_ranks_goals},
+    {lastavon_honours, lastavon_honours_goals},
+    {lastavon_ends, lastavon_ends_goals}
+};
+
+/* The words of all goals are those of the goals one by one, refusals too; the guards must stay. */
+static void expect_goals(const struct suit *suit, const uint8_t *counts, size_t length)
+{
+    struct goals out;
+    unsigned code, goal;
+    memset(&out, CANARY, sizeof out);
+    code = suit->all(counts, length, out.room, LASTAVON_GOALS);
+    EXPECT(untouched(out.before, sizeof out.before));
+    EXPECT(untouched(out.behind, sizeof out.behind));
+    for (goal = 0; goal < LASTAVON_GOALS; goal++) {
+        unsigned pairs = goal / 5, melds = goal % 5;
+        EXPECT(lastavon_goal(pairs, melds) == goal);
+        EXPECT(out.room[goal] == suit->one(counts, length, (uint8_t)pairs, (uint8_t)melds));
+        EXPECT(lastavon_suit_code(out.room[goal]) == code);
+    }
+}
+
+/* Every suit on every row, with all its counts and with fewer: answers, and each refusal that a suit can have. */
+static void test_goals(void)
+{
+    static const uint8_t rows[][LASTAVON_RANKS] = {
+        {0}, {1, 1, 0, 0, 0, 0, 0, 0, 1}, {1, 0, 0, 0, 0, 0, 0, 0, 1}, {3, 1, 1, 1, 1, 1, 1, 1, 3}, {2, 0, 0, 0, 0, 0, 1},
+        {0, 0, 0, 0, 0, 0, 5, 6, 0}, {4, 4, 4, 3, 0, 0, 0, 0, 0}, {1, 0, 0, 0, 1, 0, 0, 1, 0}
+    };
+    size_t suit, row, length;
+    for (suit = 0; suit < 3; suit++)
+        for (row = 0; row < sizeof rows / sizeof rows[0]; row++)
+            for (length = 0; length <= LASTAVON_RANKS; length++)
+                expect_goals(&suits[suit], rows[row], length);
+}
+
+/* 8 for room of any other number of words, which is left as it was; it comes before the others. */
+static void test_goal_places(void)
+{
+    uint8_t counts[LASTAVON_RANKS] = {0};
+    struct goals out;
+    size_t suit, places;
+    for (suit = 0; suit < 3; suit++)
+        for (places = 0; places <= LASTAVON_GOALS + GUARD; places++) {
+            if (places == LASTAVON_GOALS)
+                continue;
+            memset(&out, CANARY, sizeof out);
+            EXPECT(suits[suit].all(counts, LASTAVON_RANKS, out.room, places) == LASTAVON_BAD_ROOM);
+            EXPECT(suits[suit].all(counts, 0, out.room, places) == LASTAVON_BAD_ROOM);
+            EXPECT(untouched(&out, sizeof out));
+        }
+}
+
 /* With the length 0 a pointer may be anything. */
 static void test_null(void)
 {
     uint8_t counts[LASTAVON_TILES] = {0}, room[LASTAVON_ANSWER_RECORD];
     uint64_t words[LASTAVON_WORDS];
+    size_t suit;
     EXPECT(ask(NULL, 0, 4, 4, words) == LASTAVON_BAD_LENGTH);
     EXPECT(lastavon_hand(counts, LASTAVON_TILES, 4, 4, NULL, 0) == LASTAVON_BAD_ROOM);
+    EXPECT(lastavon_hand_search(counts, LASTAVON_TILES, 4, 4, NULL, 0) == LASTAVON_BAD_ROOM);
     EXPECT(lastavon_record(NULL, 0, room, LASTAVON_ANSWER_RECORD) == LASTAVON_BAD_RECORD);
     EXPECT(lastavon_record(NULL, 0, NULL, 0) == LASTAVON_BAD_ROOM);
     expect_refused(lastavon_ranks(NULL, 0, 0, 1), LASTAVON_BAD_LENGTH, 0);
     expect_refused(lastavon_honours(NULL, 0, 0, 1), LASTAVON_BAD_LENGTH, 0);
     expect_refused(lastavon_ends(NULL, 0, 0, 1), LASTAVON_BAD_LENGTH, 0);
+    for (suit = 0; suit < 3; suit++) {
+        expect_goals(&suits[suit], NULL, 0);
+        EXPECT(suits[suit].all(counts, LASTAVON_RANKS, NULL, 0) == LASTAVON_BAD_ROOM);
+    }
 }
 
 /* Where a set begins and ends, and that no bit is read past the tiles. */
@@ -269,6 +347,8 @@ int main(int argc, char **argv)
     test_record_room();
     test_suits();
     test_suit_refusals();
+    test_goals();
+    test_goal_places();
     test_null();
     test_readers();
     fclose(hands);

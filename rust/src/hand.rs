@@ -17,7 +17,17 @@ pub struct Answer {
 /// Answers a hand: 34 `counts`, `k` melds (0 to 4) that are wanted beside a pair, and the `game`, 4, or 3 for the
 /// three-player game, which has no 2m to 8m. Fewer tiles than a finished hand has are no fault.
 pub fn answer(counts: &[u8], k: u8, game: u8) -> Result<Answer, Refusal> {
-    let (code, [first, necessary, unnecessary]) = raw::hand(counts, k, game);
+    told(raw::hand(counts, k, game))
+}
+
+/// The same answer as [`answer`] gives, in another way: the targets of each suit are tried one after the other. It takes
+/// about a thousand times as long, and is here to be compared with.
+pub fn answer_by_search(counts: &[u8], k: u8, game: u8) -> Result<Answer, Refusal> {
+    told(raw::hand_search(counts, k, game))
+}
+
+/// What the code and the three words say.
+fn told((code, [first, necessary, unnecessary]): (u8, [u64; 3])) -> Result<Answer, Refusal> {
     let [number, kinds, live, index, ..] = first.to_le_bytes();
     if code != 0 {
         return Err(Refusal::of(code, index.into()));

@@ -30,11 +30,11 @@ mod set;
 mod suit;
 mod tile;
 
-pub use hand::{answer, Answer};
+pub use hand::{answer, answer_by_search, Answer};
 pub use place::Place;
 pub use rank::Rank;
 pub use record::{answer_record, record, ANSWER_RECORD, HAND_RECORD};
 pub use refusal::Refusal;
 pub use set::{Iter, Ranks, Set, Tiles};
-pub use suit::{suit, Suit, SuitAnswer};
+pub use suit::{goals, suit, Suit, SuitAnswer, GOALS};
 pub use tile::Tile;

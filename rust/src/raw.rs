@@ -12,21 +12,50 @@ extern "C" {
         words: *mut u64,
         places: usize,
     ) -> u8;
+    fn lastavon_hand_search(
+        counts: *const u8,
+        length: usize,
+        k: u8,
+        game: u8,
+        words: *mut u64,
+        places: usize,
+    ) -> u8;
     fn lastavon_record(hand: *const u8, length: usize, answer: *mut u8, room: usize) -> u8;
     fn lastavon_ranks(counts: *const u8, length: usize, pairs: u8, melds: u8) -> u64;
     fn lastavon_honours(counts: *const u8, length: usize, pairs: u8, melds: u8) -> u64;
     fn lastavon_ends(counts: *const u8, length: usize, pairs: u8, melds: u8) -> u64;
+    fn lastavon_ranks_goals(counts: *const u8, length: usize, words: *mut u64, places: usize)
+        -> u8;
+    fn lastavon_honours_goals(
+        counts: *const u8,
+        length: usize,
+        words: *mut u64,
+        places: usize,
+    ) -> u8;
+    fn lastavon_ends_goals(counts: *const u8, length: usize, words: *mut u64, places: usize) -> u8;
+}
+
+/// Calls with room for N words: the code, and the words.
+fn with_room<const N: usize>(call: impl FnOnce(*mut u64, usize) -> u8) -> (u8, [u64; N]) {
+    let mut words = [0; N];
+    let code = call(words.as_mut_ptr(), words.len());
+    (code, words)
 }
 
 /// The code, and the three words.
 pub fn hand(counts: &[u8], k: u8, game: u8) -> (u8, [u64; 3]) {
-    let mut words = [0; 3];
-    // SAFETY: both pointers come with the length of what they point to, and `words` is a local of its own.
-    let code = unsafe {
-        let (room, places) = (words.as_mut_ptr(), words.len());
+    // SAFETY: both pointers come with the length of what they point to, and the room is a local of its own.
+    with_room(|room, places| unsafe {
         lastavon_hand(counts.as_ptr(), counts.len(), k, game, room, places)
-    };
-    (code, words)
+    })
+}
+
+/// The same by search.
+pub fn hand_search(counts: &[u8], k: u8, game: u8) -> (u8, [u64; 3]) {
+    // SAFETY: as for `hand`.
+    with_room(|room, places| unsafe {
+        lastavon_hand_search(counts.as_ptr(), counts.len(), k, game, room, places)
+    })
 }
 
 /// The code; the answer record is written into the room.
@@ -51,4 +80,28 @@ pub fn honours(counts: &[u8], pairs: u8, melds: u8) -> u64 {
 pub fn ends(counts: &[u8], pairs: u8, melds: u8) -> u64 {
     // SAFETY: the pointer comes with its slice's length, and nothing is written.
     unsafe { lastavon_ends(counts.as_ptr(), counts.len(), pairs, melds) }
+}
+
+/// The code of nine ranks, and the words of the ten goals.
+pub fn ranks_goals(counts: &[u8]) -> (u8, [u64; 10]) {
+    // SAFETY: as for `hand`.
+    with_room(|room, places| unsafe {
+        lastavon_ranks_goals(counts.as_ptr(), counts.len(), room, places)
+    })
+}
+
+/// The code of the honours, and the words of the ten goals.
+pub fn honours_goals(counts: &[u8]) -> (u8, [u64; 10]) {
+    // SAFETY: as for `hand`.
+    with_room(|room, places| unsafe {
+        lastavon_honours_goals(counts.as_ptr(), counts.len(), room, places)
+    })
+}
+
+/// The code of 1m/9m, and the words of the ten goals.
+pub fn ends_goals(counts: &[u8]) -> (u8, [u64; 10]) {
+    // SAFETY: as for `hand`.
+    with_room(|room, places| unsafe {
+        lastavon_ends_goals(counts.as_ptr(), counts.len(), room, places)
+    })
 }

@@ -1,4 +1,4 @@
-//! Stored records: the fourteen rows of document 01's table, by both entries, and thousands of hands.
+//! Stored records: the fourteen rows of document 01's table, by all entries, and thousands of hands.
 
 use std::fs;
 use std::path::Path;
@@ -41,6 +41,9 @@ fn every_row() {
     for (hand, answer) in rows {
         assert_eq!(lastavon::answer_record(hand), answer);
         assert_eq!(by_answer(hand), answer);
+        let (counts, k, game) = (&hand[..34], hand[34], hand[35]);
+        let searched = lastavon::answer_by_search(counts, k, game);
+        assert_eq!(searched, lastavon::answer(counts, k, game));
     }
 }
 

@@ -1,6 +1,6 @@
-//! One suit: answers, and refusals that name a rank.
+//! One suit: answers, refusals that name a rank, and all goals at once.
 
-use lastavon::{suit, Rank, Suit, SuitAnswer};
+use lastavon::{goals, suit, Rank, Suit, SuitAnswer, GOALS};
 
 fn answered(which: Suit, counts: &[u8], pairs: u8, melds: u8) -> (u8, String, String) {
     let found: SuitAnswer = suit(which, counts, pairs, melds).expect("a suit");
@@ -62,4 +62,27 @@ fn refusals() {
         refused(Suit::Ends, &barred, 0, 1),
         told(6, Some(4), "rank 5 may not be held in 1m/9m")
     );
+}
+
+/// All goals at once are the goals one by one, refusals too.
+#[test]
+fn all_goals() {
+    let rows: [[u8; 9]; 7] = [
+        [0; 9],
+        [1, 1, 0, 0, 0, 0, 0, 0, 1],
+        [1, 0, 0, 0, 0, 0, 0, 0, 1],
+        [3, 1, 1, 1, 1, 1, 1, 1, 3],
+        [0, 0, 0, 0, 0, 0, 5, 5, 0],
+        [4, 4, 4, 3, 0, 0, 0, 0, 0],
+        [1, 0, 0, 0, 1, 0, 0, 1, 0],
+    ];
+    for which in [Suit::Ranks, Suit::Honours, Suit::Ends] {
+        for (row, length) in rows.iter().flat_map(|row| (0..=9).map(move |n| (row, n))) {
+            let (counts, all) = (&row[..length], goals(which, &row[..length]));
+            for goal in 0..GOALS {
+                let one = suit(which, counts, goal as u8 / 5, goal as u8 % 5);
+                assert_eq!(one, all.map(|answers| answers[goal]));
+            }
+        }
+    }
 }

@@ -7,12 +7,9 @@ use Rattle.tile.specs.Hand.{handValues}
 use Rattle.tile.specs.declared.one_hand.HandAnswer.{HandAnswer}
 use Rattle.tile.proofs.Hand.{hand-once}
 use Rattle.lastavon.specs.Words.{wordsOf, Written}
-use Rattle.lastavon.specs.Words.Written.{answered, left}
+use Rattle.lastavon.proofs.RoomOnce.{room-once}
 
 pub written-once : (game k : ℕ) (h x : List ℕ) (c d : ℕ) (y z : List ℕ) → Written game k h x c y → Written game k h x d z → (c ≡ d) × (y ≡ z)
-written-once game k h x c d y z (answered l a p e f) (answered m b q g w) =
+written-once game k h x c d y z (a, p, r) (b, q, s) =
     let same = hand-once game k h a b p q in
-    (e ∙ ap (λ (v : HandAnswer). handValues v .code) same ∙ sym g, f ∙ ap wordsOf same ∙ sym w)
-written-once game k h x c d y z (answered l a p e f) (left n g w) = absurd (n l)
-written-once game k h x c d y z (left n e f) (answered l a p g w) = absurd (n l)
-written-once game k h x c d y z (left n e f) (left m g w) = (e ∙ sym g, f ∙ sym w)
+    room-once (λ (e, f) (g, w). (e ∙ ap (λ (v : HandAnswer). handValues v .code) same ∙ sym g, f ∙ ap wordsOf same ∙ sym w)) r s

@@ -15,5 +15,6 @@ module _ (a b c : ℕ) where
   written (u ∷ v ∷ w ∷ z ∷ y) e = absurd (omega arith)
 
 -- the words of v, given as a list of three
-pub three-words : (x v : List ℕ) (a b c : ℕ) → length x ≡ 3 → v ≡ (a ∷ b ∷ c ∷ []) → set (set (set x 0 (getD v 0 0)) 1 (getD v 1 0)) 2 (getD v 2 0) ≡ v
+pub three-words : (x v : List ℕ) (a b c : ℕ) → length x ≡ 3 → v ≡ (a ∷ b ∷ c ∷ [])
+    → set (set (set x 0 (getD v 0 0)) 1 (getD v 1 0)) 2 (getD v 2 0) ≡ v
 three-words x v a b c e f = rw f (written a b c x e)

@@ -1,2 +1,4 @@
+pub mod Goals
+pub mod Room
 pub mod Word
 pub mod Words

@@ -8,7 +8,7 @@ use crate::bytes::NO_ROOM;
 use crate::bytes::answered;
 use crate::bytes::coded;
 use crate::put::put;
-use hand::entry::answer;
+use hand::entry::fast_answer;
 use tile::one_hand::HandAnswer;
 use tile::one_hand::code_of;
 
@@ -23,7 +23,7 @@ pub fn answer_record(hand: &[u8], out: &mut [u8]) -> u8
         put(out, coded(BROKEN));
         return BROKEN;
     }
-    let found = answer(&hand[0..COUNTS], hand[COUNTS], hand[COUNTS + 1]);
+    let found = fast_answer(&hand[0..COUNTS], hand[COUNTS], hand[COUNTS + 1]);
     let HandAnswer::Answered(values) = found else {
         let code = code_of(found);
         put(out, coded(code));

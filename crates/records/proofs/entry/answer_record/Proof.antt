@@ -24,7 +24,7 @@ returns-3 : tie.Need-returns-3
 returns-3 c =
     let p = c .before .before in
     let n = p .before .before .before in
-    let a = n .before .before .before .answer in
+    let a = n .before .before .before .fast-answer in
     let told = n .before .enum-told .given .1 in
     let code = n .code-of .ensures in
     recorded-whole (omega arith) (a .result) (omega arith) (a .ensures) code (put-there (omega arith) (p .put2 .ensures) ∙ p .before .coded2 .ensures ∙ refused-record told code)
@@ -33,7 +33,7 @@ returns-4 : tie.Need-returns-4
 returns-4 c =
     let p = c .before .before in
     let n = p .before .before .before in
-    let a = n .before .before .before .answer in
+    let a = n .before .before .before .fast-answer in
     let told = n .before .found .given .1 in
     recorded-whole (omega arith) (a .result) (omega arith) (a .ensures) (ap (λ (x : HandAnswer). handValues x .code) (sym told))
     (put-there (omega arith) (p .put3 .ensures) ∙ p .before .answered .ensures ∙ ap recordOf (sym told))
