@@ -4,6 +4,7 @@ ghost use Prim.Native.Nat.{_*_, _≤_, min};
 ghost use lib.ListN.{length};
 ghost use Rattle.records.specs.Many.{pieces, Filled};
 use crate::reply::reply;
+use hand::way::Way;
 use records::bytes::ANSWER;
 use records::bytes::HAND;
 use records::put::put;
@@ -15,7 +16,7 @@ fn least(a: usize, b: usize) -> usize
 }
 
 // Answers all pieces of `hands`, in order, at the start of `out`. The number of bytes written is returned.
-pub(crate) fn answers(hands: &[u8], out: &mut [u8]) -> usize
+pub(crate) fn answers(hands: &[u8], out: &mut [u8], way: Way) -> usize
     requires { ⌜ pieces (now hands) * 16 ≤ length (now out) ⌝ }
     ensures { λ r. ⌜ Filled (now (hands .entry)) (now (out .entry)) r (now (out .exit)) ⌝ }
 {
@@ -24,7 +25,7 @@ pub(crate) fn answers(hands: &[u8], out: &mut [u8]) -> usize
     while i < n {
         let from = i * HAND;
         let to = least(from + HAND, hands.len());
-        let bytes = reply(&hands[from..to]);
+        let bytes = reply(&hands[from..to], way);
         let at = i * ANSWER;
         put(&mut out[at..at + ANSWER], bytes);
         i += 1;

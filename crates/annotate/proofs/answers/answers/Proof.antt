@@ -15,10 +15,10 @@ use Rattle.annotate.proofs.answers.answers.Statement.{statement}
 use Rattle.annotate.proofs.answers.answers.Tie as tie
 
 abbrev Inv-loop : tie.InvT-loop
-Inv-loop hands out₀ n i₀ out i = (i ≤ n) × (length out ≡ length out₀) × After i hands out₀ out
+Inv-loop hands out₀ way n i₀ out i = (i ≤ n) × (length out ≡ length out₀) × After i hands out₀ out
 
 abbrev μ-loop : tie.MeasureT-loop
-μ-loop hands out₀ n i₀ out i = n - i
+μ-loop hands out₀ way n i₀ out i = n - i
 
 loop-again : tie.Need-loop-again Inv-loop μ-loop
 loop-again c =

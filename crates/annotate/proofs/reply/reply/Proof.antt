@@ -15,13 +15,13 @@ returns c = broken (λ e. omega arith) (c .coded .ensures)
 returns-2 : tie.Need-returns-2
 returns-2 c =
     let n = c .before in
-    let a = n .before .before .before .answer in
+    let a = n .before .before .before .answer-by in
     whole (omega arith) (a .result) (a .ensures) (c .coded2 .ensures ∙ refused-record (n .before .enum-told .given .1) (n .code-of .ensures))
 
 returns-3 : tie.Need-returns-3
 returns-3 c =
     let n = c .before in
-    let a = n .before .before .before .answer in
+    let a = n .before .before .before .answer-by in
     whole (omega arith) (a .result) (a .ensures) (c .answered .ensures ∙ ap recordOf (sym (n .before .found .given .1)))
 
 pub reply-spec : {M : Type 1} → statement M
