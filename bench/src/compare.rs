@@ -1,51 +1,82 @@
-//! Many hands, answered by the Rust source and through the library.
+//! Many hands, answered by the Rust source and through the library: by the fast form, and some
+//! of them by our search as well.
 
 mod asked;
+mod cells;
+mod suits;
 mod tally;
 
-use std::sync::atomic::{AtomicUsize, Ordering};
-use std::thread;
+use std::io;
 use std::time::Instant;
 
-use oracle::hand::question::Question;
+use crate::maps::{self, shared, threads};
+use asked::Questions;
 use tally::Tally;
 
-const THREADS: usize = 2;
-
-/// A thread takes so many questions at a time.
-const TAKEN: usize = 50;
-
-/// Says whether nothing was different.
-pub fn compare(seed: u64, count: usize) -> bool {
-    let begun = Instant::now();
-    println!("seed {seed}");
-    let questions = asked::questions(seed, count);
-    let tally = all(&questions);
-    tally.print();
-    println!("{:.0} seconds", begun.elapsed().as_secs_f64());
-    tally.is_clean()
+/// What is asked.
+pub struct Plan {
+    pub seed: u64,
+    pub count: usize,
+    /// Of the questions so many, evenly spread, are asked of the search too.
+    pub search: usize,
+    /// Whether the words of all suits are kept in a file.
+    pub cache: bool,
 }
 
-/// The threads take from the front, so that none is idle while there is something left.
-fn all(questions: &[Question]) -> Tally {
-    let next = AtomicUsize::new(0);
-    let work = || {
-        let mut tally = Tally::default();
-        loop {
-            let first = next.fetch_add(TAKEN, Ordering::Relaxed);
-            let Some(rest) = questions.get(first..) else {
-                return tally;
-            };
-            for (at, question) in rest.iter().take(TAKEN).enumerate() {
-                tally.ask(first + at, question);
+/// So many questions are asked of the search to tell how long it will take.
+const TRIED: usize = 10;
+
+/// Says whether nothing was different.
+pub fn compare(plan: &Plan) -> io::Result<bool> {
+    let begun = Instant::now();
+    println!("seed {}", plan.seed);
+    let questions = Questions::new(plan.seed, plan.count);
+    match plan.cache {
+        true => maps::fill_all()?,
+        false => maps::fill(&suits::needed(&questions)),
+    }
+    print_estimate(&questions, plan);
+    let tally = all(&questions, plan);
+    tally.print();
+    println!("{:.0} seconds", begun.elapsed().as_secs_f64());
+    Ok(tally.is_clean())
+}
+
+/// Every so many questions one is asked of the search.
+fn step(plan: &Plan) -> Option<usize> {
+    plan.count.max(1).checked_div(plan.search.min(plan.count))
+}
+
+fn all(questions: &Questions, plan: &Plan) -> Tally {
+    let step = step(plan);
+    let tallies = shared(questions.blocks(), |tally: &mut Tally, block| {
+        for (at, asked) in questions.block(block) {
+            tally.ask(at, &asked);
+            if step.is_some_and(|step| at.is_multiple_of(step)) {
+                tally.ask_search(at, &asked);
             }
         }
-    };
-    thread::scope(|scope| {
-        let threads: Vec<_> = (0..THREADS).map(|_| scope.spawn(work)).collect();
-        let joined = threads.into_iter().map(|thread| thread.join());
-        joined
-            .map(|tally| tally.expect("a thread that ends"))
-            .fold(Tally::default(), Tally::with)
-    })
+    });
+    tallies.into_iter().fold(Tally::default(), Tally::with)
+}
+
+/// From one block of questions, of which a few are searched.
+fn print_estimate(questions: &Questions, plan: &Plan) {
+    let mut tally = Tally::default();
+    let begun = Instant::now();
+    let block = questions.block(questions.blocks().saturating_sub(1));
+    block.iter().for_each(|(at, asked)| tally.ask(*at, asked));
+    let one = begun.elapsed().as_secs_f64() / block.len().max(1) as f64;
+    let begun = Instant::now();
+    let tried = block.iter().take(TRIED);
+    tried.for_each(|(at, asked)| tally.ask_search(*at, asked));
+    let one_search = begun.elapsed().as_secs_f64() / TRIED as f64;
+    let searched = plan.search.min(plan.count);
+    let work = one * plan.count as f64 + one_search * searched as f64;
+    let (count, threads) = (plan.count, threads());
+    print!("{count} questions, {searched} of them asked of the search as well, ");
+    println!(
+        "threads {threads}: about {:.0} seconds",
+        work / threads as f64
+    );
 }

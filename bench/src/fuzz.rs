@@ -2,6 +2,7 @@
 //! Rust source.
 
 mod files;
+mod goals;
 mod hands;
 mod hex;
 pub mod inputs;
@@ -20,11 +21,14 @@ use tally::Tally;
 /// A part asks once more, and is called until its time is over.
 type Ask = fn(&mut Random, &mut Tally);
 
-const PARTS: [(&str, Ask); 4] = [
+const PARTS: [(&str, Ask); 7] = [
     ("library, lastavon_record", records::ask),
     ("library, lastavon_hand", hands::ask),
-    ("library, one suit", suits::ask),
+    ("library, lastavon_hand_search", hands::ask_search),
+    ("library, one goal of a suit", suits::ask),
+    ("library, ten goals of a suit", goals::ask),
     ("program", program::ask),
+    ("program --search", program::ask_search),
 ];
 
 /// Says whether nothing was different. Each part has the same share of the time, and inputs of

@@ -19,6 +19,11 @@ pub trait Group {
     fn ask(&self, side: usize, part: Range<usize>);
 }
 
+/// Groups of any kind beside each other.
+pub fn boxed<G: Group + 'static>(groups: impl Iterator<Item = G>) -> Vec<Box<dyn Group>> {
+    groups.map(|group| Box::new(group) as _).collect()
+}
+
 /// So many differences are printed.
 const PRINTED: usize = 5;
 

@@ -9,6 +9,12 @@ use oracle::suit::{Goal, Suit};
 /// refusal in 40 to 47, code in 48 to 55.
 pub type Word = u64;
 
+/// How many goals a suit has.
+pub const TEN: usize = 10;
+
+/// Counts and room, and how many there are of each.
+type AskGoals = unsafe extern "C" fn(*const u8, usize, *mut Word, usize) -> u8;
+
 unsafe extern "C" {
     fn lastavon_ranks(counts: *const u8, length: usize, pairs: u8, melds: u8) -> Word;
     fn lastavon_honours(counts: *const u8, length: usize, pairs: u8, melds: u8) -> Word;
@@ -22,6 +28,24 @@ unsafe extern "C" {
         out: *mut u64,
         out_len: usize,
     ) -> u8;
+
+    fn lastavon_hand_search(
+        counts: *const u8,
+        counts_len: usize,
+        k: u8,
+        game: u8,
+        out: *mut u64,
+        out_len: usize,
+    ) -> u8;
+
+    fn lastavon_ranks_goals(counts: *const u8, length: usize, out: *mut Word, places: usize) -> u8;
+    fn lastavon_honours_goals(
+        counts: *const u8,
+        length: usize,
+        out: *mut Word,
+        places: usize,
+    ) -> u8;
+    fn lastavon_ends_goals(counts: *const u8, length: usize, out: *mut Word, places: usize) -> u8;
 
     fn lastavon_record(hand: *const u8, length: usize, answer: *mut u8, room: usize) -> u8;
 }
@@ -69,16 +93,60 @@ pub fn suit(suit: Suit, counts: &[u8], goal: Goal) -> Word {
     unsafe { asked(place(counts), counts.len(), goal.pairs, goal.melds) }
 }
 
+#[inline]
+pub fn ranks_goals(counts: &[u8; 9]) -> [Word; TEN] {
+    goals_of(lastavon_ranks_goals, counts)
+}
+
+#[inline]
+pub fn honours_goals(counts: &[u8; 7]) -> [Word; TEN] {
+    goals_of(lastavon_honours_goals, counts)
+}
+
+#[inline]
+pub fn ends_goals(counts: &[u8; 9]) -> [Word; TEN] {
+    goals_of(lastavon_ends_goals, counts)
+}
+
+#[inline]
+fn goals_of(asked: AskGoals, counts: &[u8]) -> [Word; TEN] {
+    let mut room = [0; TEN];
+    unsafe { asked(counts.as_ptr(), counts.len(), room.as_mut_ptr(), TEN) };
+    room
+}
+
+/// Gives the code. The ten goals of a suit with any counts are written into the ten words of
+/// `room`, by the fast form; if there are more or fewer, the code is 8 and nothing is written.
+pub fn goals(suit: Suit, counts: &[u8], room: &mut [Word]) -> u8 {
+    let asked: AskGoals = match suit {
+        Suit::Ranks => lastavon_ranks_goals,
+        Suit::Honours => lastavon_honours_goals,
+        Suit::Ends => lastavon_ends_goals,
+    };
+    let (places, out) = (room.len(), room_place(room));
+    unsafe { asked(place(counts), counts.len(), out, places) }
+}
+
 /// Gives the code. The answer is written into the three words of `room`, as `Reply` has it;
-/// if there are more or fewer, the code is 8 and nothing is written.
+/// if there are more or fewer, the code is 8 and nothing is written. By the fast form.
 #[inline]
 pub fn hand(counts: &[u8], k: u8, game: u8, room: &mut [u64]) -> u8 {
     let (out_len, out) = (room.len(), room_place(room));
     unsafe { lastavon_hand(place(counts), counts.len(), k, game, out, out_len) }
 }
 
-pub fn asked(question: &Question, room: &mut [u64]) -> u8 {
-    hand(&question.counts, question.k, question.game, room)
+/// The same by the search.
+#[inline]
+pub fn hand_search(counts: &[u8], k: u8, game: u8, room: &mut [u64]) -> u8 {
+    let (out_len, out) = (room.len(), room_place(room));
+    unsafe { lastavon_hand_search(place(counts), counts.len(), k, game, out, out_len) }
+}
+
+/// One of the two hand entries.
+pub type Entry = fn(&[u8], u8, u8, &mut [u64]) -> u8;
+
+pub fn asked(entry: Entry, question: &Question, room: &mut [u64]) -> u8 {
+    entry(&question.counts, question.k, question.game, room)
 }
 
 /// Gives the code. The answer record is written into the sixteen bytes of `room`; if there are

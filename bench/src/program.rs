@@ -2,6 +2,7 @@
 //! the same by the Rust source.
 
 mod files;
+pub mod many;
 mod memory;
 pub mod side;
 mod timed;
@@ -9,34 +10,36 @@ mod timed;
 use std::io;
 
 use files::File;
-use side::Side;
-use timed::{ROUNDS, Timed};
+use side::Sides;
+use timed::{NAMES, ROUNDS, Timed};
 
 /// Says whether all answers were the same; if not, nothing is measured.
-pub fn measure(ours: &Side, rust: &Side) -> io::Result<bool> {
+pub fn measure(sides: &Sides) -> io::Result<bool> {
     let files = files::all();
-    if !agree(&files, ours, rust)? {
+    if !agree(&files, sides)? {
         return Ok(false);
     }
     println!("microseconds (us) a record and records a second (/s): the middle of {ROUNDS} rounds");
     print_head();
     for file in files.iter().filter(|file| file.is_searched) {
-        print_times(file, &Timed::measure(file, ours, rust)?);
+        print_times(file, &Timed::measure(file, sides)?);
     }
     for file in files.iter().filter(|file| !file.is_searched) {
-        print_rates(file, &Timed::measure(file, ours, rust)?);
+        print_rates(file, &Timed::measure(file, sides)?);
     }
-    memory::print(ours)
+    Ok(true)
 }
 
 /// Byte for byte: times of different answers would say nothing.
-fn agree(files: &[File], ours: &Side, rust: &Side) -> io::Result<bool> {
+fn agree(files: &[File], sides: &Sides) -> io::Result<bool> {
     let (mut bytes, mut different) = (0, 0);
     for file in files {
-        file.lay()?;
-        let theirs = rust.answers()?;
-        bytes += theirs.len();
-        if ours.answers()? != theirs || theirs.len() != 16 * file.count() {
+        let (few, many) = file.lay()?;
+        let theirs = sides.rust.answers(few)?;
+        let same = sides.search.answers(few)? == theirs
+            && sides.fast.answers(many)? == theirs.repeat(file.times);
+        bytes += theirs.len() * (1 + file.times);
+        if !same || theirs.len() != 16 * file.count() {
             println!("different: {}", file.name);
             different += 1;
         }
@@ -47,33 +50,34 @@ fn agree(files: &[File], ours: &Side, rust: &Side) -> io::Result<bool> {
 }
 
 fn print_head() {
-    print!("{:38}{:>8}", "", "records");
-    for name in ["ours, us", "Rust, us", "ours, /s", "Rust, /s"] {
-        print!("{name:>10}");
+    print!("{:33}{:>8}", "", "records");
+    for unit in ["us", "/s"] {
+        let names = NAMES.iter().map(|name| format!("{name} {unit}"));
+        names.for_each(|name| print!("{name:>10}"));
     }
-    println!("{:>11}{:>16}", "ours/Rust", "lowest-highest");
+    println!("{:>10}{:>15}", "Rust/fast", "lowest-highest");
 }
 
 fn print_times(file: &File, timed: &Timed) {
     let count = file.count() as f64;
-    let (ours, rust) = (timed.ours(), timed.rust());
-    print!("{:38}{:>8}", file.name, file.count());
-    print!("{:>10.1}{:>10.1}", ours * 1e6 / count, rust * 1e6 / count);
-    print!("{:>10.0}{:>10.0}", count / ours, count / rust);
-    println!("{:>11.2}{:>16}", timed.ratio(), timed.spread());
+    let seconds: Vec<f64> = (0..NAMES.len()).map(|side| timed.seconds(side)).collect();
+    print!("{:33}{:>8}", file.name, file.count());
+    let micros = seconds.iter().map(|seconds| seconds * 1e6 / count);
+    micros.for_each(|micros| print!("{micros:>10.2}"));
+    let rates = seconds.iter().map(|seconds| count / seconds);
+    rates.for_each(|rate| print!("{rate:>10.0}"));
+    println!("{:>10.0}{:>15}", timed.ratio(), timed.spread());
 }
 
 /// What is not searched is limited by reading and writing.
 fn print_rates(file: &File, timed: &Timed) {
-    let (ours, rust) = (timed.ours(), timed.rust());
-    print!("{}: {} records, ", file.name, file.count());
-    print!("ours {:.1} ms, Rust {:.1} ms", ours * 1e3, rust * 1e3);
-    match file.megabytes() {
-        0.0 => println!(),
-        size => println!(
-            " (ours {:.0} MB/s, Rust {:.0} MB/s)",
-            size / ours,
-            size / rust
-        ),
+    print!("{}: {} records", file.name, file.count());
+    for (side, name) in NAMES.iter().enumerate() {
+        let seconds = timed.seconds(side);
+        print!(", {name} {:.1} ms", seconds * 1e3);
+        if file.count() > 0 {
+            print!(" ({:.0} MB/s)", file.megabytes() / seconds);
+        }
     }
+    println!();
 }

@@ -4,13 +4,13 @@ use std::fmt;
 
 use oracle::answer::Answer;
 use oracle::hand::Hand;
-use oracle::hand::asked::answered;
+use oracle::hand::asked::{Asked, answered};
 use oracle::hand::question::Question;
 use oracle::merged;
 use oracle::notation::written_set;
 use oracle::refusal::Refusal;
 
-use crate::ours;
+use crate::ours::{self, Entry};
 
 /// The first word has the number in bits 0 to 7, kinds in 8 to 15, live in 16 to 23, the index
 /// of a refusal in 24 to 31, and nothing above; the others are the necessary and the
@@ -22,18 +22,23 @@ pub struct Reply {
 }
 
 impl Reply {
-    /// The Rust source's.
+    /// The Rust source's, which remembers the suits that it has searched.
     pub fn theirs(question: &Question) -> Self {
-        match answered(question, merged::answer) {
+        Reply::by(merged::answer, question)
+    }
+
+    /// The Rust source's, by its search or by maps.
+    pub fn by(asked: Asked, question: &Question) -> Self {
+        match answered(question, asked) {
             Ok((hand, answer)) => Reply::of_answer(&hand, &answer),
             Err(reason) => Reply::of_refusal(reason),
         }
     }
 
-    /// Ours; a word that is not written shows.
-    pub fn ours(question: &Question) -> Self {
+    /// Ours, by the fast form or by the search; a word that is not written shows.
+    pub fn ours(entry: Entry, question: &Question) -> Self {
         let mut words = [u64::MAX; 3];
-        let code = ours::asked(question, &mut words);
+        let code = ours::asked(entry, question, &mut words);
         Reply { code, words }
     }
 

@@ -1,4 +1,4 @@
-//! One suit, all ten goals: our search beside that of the Rust source.
+//! One suit, all ten goals: our fast form and our search beside the search of the Rust source.
 
 mod groups;
 mod sides;
@@ -17,19 +17,28 @@ use sides::Sides;
 
 /// The order of the columns.
 const RUST: usize = 0;
-const OURS: usize = 1;
+const SEARCH: usize = 1;
+const FAST: usize = 2;
 
 /// Says whether all answers were the same; if not, nothing is measured.
 pub fn measure() -> bool {
     let groups = groups::groups();
-    if !agree(&groups, GOALS.len()) {
+    if !agree(&groups, 2 * GOALS.len()) {
         return false;
     }
     println!("microseconds a suit, all ten goals: the middle of {ROUNDS} rounds");
-    println!(
-        "{:28}{:>6}{:>12}{:>12}{:>12}{:>16}",
-        "", "suits", "Rust", "ours", "ours/Rust", "lowest-highest"
-    );
+    print!("{:28}{:>6}", "", "suits");
+    for name in [
+        "Rust",
+        "search",
+        "fast",
+        "search/Rust",
+        "fast/Rust",
+        "Rust/fast",
+    ] {
+        print!("{name:>12}");
+    }
+    println!("{:>16}", "lowest-highest");
     for group in &groups {
         print(&Times::measure(group.as_ref()));
     }
@@ -37,15 +46,14 @@ pub fn measure() -> bool {
 }
 
 fn print(times: &Times) {
-    println!(
-        "{:28}{:>6}{:>12.3}{:>12.3}{:>12.2}{:>16}",
-        times.name,
-        times.size,
-        times.micros(RUST),
-        times.micros(OURS),
-        times.ratio(OURS, RUST),
-        times.spread(OURS, RUST),
-    );
+    print!("{:28}{:>6}", times.name, times.size);
+    [RUST, SEARCH, FAST]
+        .iter()
+        .for_each(|&side| print!("{:>12.3}", times.micros(side)));
+    print!("{:>12.2}", times.ratio(SEARCH, RUST));
+    print!("{:>12.4}", times.ratio(FAST, RUST));
+    print!("{:>12.1}", times.ratio(RUST, FAST));
+    println!("{:>16}", times.spread(RUST, FAST, 1));
 }
 
 /// Suits of one kind.
@@ -64,17 +72,18 @@ impl<S: Sides> Group for Suits<S> {
     }
 
     fn sides(&self) -> usize {
-        2
+        3
     }
 
     fn differences(&self) -> Vec<String> {
         let mut different = Vec::new();
         for counts in &self.suits {
-            for goal in GOALS {
-                let (theirs, ours) = (word(S::theirs(counts, goal)), S::ours(counts, goal));
-                if theirs != ours {
+            for (goal, fast) in GOALS.into_iter().zip(S::fast(counts)) {
+                let (theirs, search) = (word(S::theirs(counts, goal)), S::search(counts, goal));
+                if theirs != search || theirs != fast {
                     let asked = format!("{}, {counts:?}, {goal:?}", self.name);
-                    different.push(format!("{asked}: Rust {theirs:#x}, ours {ours:#x}"));
+                    let ours = format!("search {search:#x}, fast {fast:#x}");
+                    different.push(format!("{asked}: Rust {theirs:#x}, {ours}"));
                 }
             }
         }
@@ -84,7 +93,8 @@ impl<S: Sides> Group for Suits<S> {
     fn ask(&self, side: usize, part: Range<usize>) {
         match side {
             RUST => self.ask_theirs(part),
-            _ => self.ask_ours(part),
+            SEARCH => self.ask_search(part),
+            _ => self.ask_fast(part),
         }
     }
 }
@@ -98,11 +108,17 @@ impl<S: Sides> Suits<S> {
         }
     }
 
-    fn ask_ours(&self, part: Range<usize>) {
+    fn ask_search(&self, part: Range<usize>) {
         for counts in &self.suits[part] {
             for goal in GOALS {
-                black_box(S::ours(black_box(counts), goal));
+                black_box(S::search(black_box(counts), goal));
             }
+        }
+    }
+
+    fn ask_fast(&self, part: Range<usize>) {
+        for counts in &self.suits[part] {
+            black_box(S::fast(black_box(counts)));
         }
     }
 }

@@ -18,25 +18,34 @@ impl Times {
         }
     }
 
+    pub fn sides(&self) -> usize {
+        self.rounds[0].len()
+    }
+
     /// Microseconds for one suit or hand: the middle of all rounds.
     pub fn micros(&self, side: usize) -> f64 {
-        let seconds = sorted(self.rounds.iter().map(|round| round[side]));
-        seconds[ROUNDS / 2] * 1e6 / self.size as f64
+        self.middle(|round| round[side] * 1e6)
+    }
+
+    /// The middle of what is found of each round, from the seconds of the sides.
+    pub fn middle(&self, of: impl Fn(&[f64]) -> f64) -> f64 {
+        self.all(of)[ROUNDS / 2]
     }
 
     /// The middle of the ratios of the rounds, as a cell of a table.
     pub fn ratio(&self, side: usize, to: usize) -> f64 {
-        self.ratios(side, to)[ROUNDS / 2]
+        self.middle(|round| round[side] / round[to])
     }
 
-    /// The lowest and the highest of them.
-    pub fn spread(&self, side: usize, to: usize) -> String {
-        let ratios = self.ratios(side, to);
-        format!("{:.2}-{:.2}", ratios[0], ratios[ROUNDS - 1])
+    /// The lowest and the highest of them, with so many digits.
+    pub fn spread(&self, side: usize, to: usize, digits: usize) -> String {
+        let ratios = self.all(|round| round[side] / round[to]);
+        let (lowest, highest) = (ratios[0], ratios[ROUNDS - 1]);
+        format!("{lowest:.digits$}-{highest:.digits$}")
     }
 
-    fn ratios(&self, side: usize, to: usize) -> Vec<f64> {
-        sorted(self.rounds.iter().map(|round| round[side] / round[to]))
+    fn all(&self, of: impl Fn(&[f64]) -> f64) -> Vec<f64> {
+        sorted(self.rounds.iter().map(|round| of(round)))
     }
 }
 

@@ -50,8 +50,9 @@ mod shupai_map;
 mod zipai_map;
 
 mod fill;
+pub mod merges;
 
-pub use fill::fill;
+pub use fill::{Maps, fill};
 
 /// As `merged::answer`, from the maps. The suits of the hand must be in them.
 pub fn answer(hand: &Hand) -> Answer {

@@ -1,12 +1,12 @@
-//! Holds our hand entry against the Rust source on many hands.
+//! Holds our hand entries against the Rust source on many hands.
 
 use std::env;
 use std::process::ExitCode;
 
-use bench::compare::compare;
+use bench::compare::{Plan, compare};
 use oracle::options::Options;
 
-const USAGE: &str = "usage: bench/compare [--seed S] [--count N]";
+const USAGE: &str = "usage: bench/compare [--seed S] [--count N] [--search M] [--cache]";
 
 fn main() -> ExitCode {
     match run(Options::new(env::args().skip(1))) {
@@ -21,8 +21,12 @@ fn main() -> ExitCode {
 
 /// Says whether nothing was different.
 fn run(mut options: Options) -> Result<bool, String> {
-    let seed = options.number("--seed", 1)?;
-    let count = options.number("--count", 116_000)?;
+    let plan = Plan {
+        seed: options.number("--seed", 1)?,
+        count: options.number("--count", 116_000)? as usize,
+        search: options.number("--search", 1_000)? as usize,
+        cache: options.flag("--cache"),
+    };
     options.end()?;
-    Ok(compare(seed, count as usize))
+    compare(&plan).map_err(|error| format!("bench/compare: {error}"))
 }

@@ -1,11 +1,12 @@
 //! What was asked, and how often the replies were different.
 
-use std::fmt::Display;
-
 use oracle::hand::question::Question;
+use oracle::mapped;
 use oracle::notation::written;
 
-use crate::ours;
+use super::asked::Asked;
+use super::cells::Cells;
+use crate::ours::{self, Entry};
 use crate::reply::Reply;
 
 /// So many differences are printed.
@@ -19,126 +20,163 @@ const WRONG_ROOM: u8 = 8;
 
 #[derive(Default)]
 pub struct Tally {
-    /// Games 3, 4 and others; k 0 to 4 and others.
-    asked: [[usize; 6]; 3],
-    /// By the code that the Rust source and document 01 give.
-    codes: [usize; 7],
+    asked: Cells,
+    different: Cells,
+    searched: Cells,
+    different_search: Cells,
     rooms: usize,
+    different_rooms: usize,
     /// With the place of the question, so that the first can be told.
-    different: Vec<(usize, String)>,
+    first: Vec<(usize, String)>,
 }
 
 impl Tally {
-    pub fn ask(&mut self, at: usize, question: &Question) {
-        let (theirs, ours) = (Reply::theirs(question), Reply::ours(question));
-        self.count(question, theirs.code);
+    /// The fast form against the Rust source.
+    pub fn ask(&mut self, at: usize, asked: &Asked) {
+        let (theirs, ours) = replies(ours::hand, asked);
+        self.asked.add(asked, theirs.code);
         if theirs != ours {
-            let replies = format!("Rust {theirs}\n    ours {ours}");
-            self.tell(at, question, &replies);
+            self.different.add(asked, theirs.code);
+            self.tell(at, asked, || format!("Rust {theirs}\n    ours {ours}"));
         }
         if at.is_multiple_of(ROOMS) {
-            self.ask_with_wrong_room(at, question);
+            self.ask_with_wrong_room(at, asked, ours::hand);
         }
     }
 
-    fn count(&mut self, question: &Question, code: u8) {
-        let game = match question.game {
-            3 => 0,
-            4 => 1,
-            _ => 2,
-        };
-        self.asked[game][usize::from(question.k.min(5))] += 1;
-        self.codes[usize::from(code)] += 1;
+    /// Our search against the Rust source.
+    pub fn ask_search(&mut self, at: usize, asked: &Asked) {
+        let (theirs, ours) = replies(ours::hand_search, asked);
+        self.searched.add(asked, theirs.code);
+        if theirs != ours {
+            self.different_search.add(asked, theirs.code);
+            self.tell(at, asked, || {
+                format!("Rust {theirs}\n    our search {ours}")
+            });
+        }
+        if at.is_multiple_of(ROOMS) {
+            self.ask_with_wrong_room(at, asked, ours::hand_search);
+        }
     }
 
     /// Whatever the question is, the code must be 8 and nothing written.
-    fn ask_with_wrong_room(&mut self, at: usize, question: &Question) {
+    fn ask_with_wrong_room(&mut self, at: usize, asked: &Asked, entry: Entry) {
         for length in [0, 1, 2, 4, 5] {
             let mut words = [u64::MAX; 5];
-            let code = ours::asked(question, &mut words[..length]);
+            let code = ours::asked(entry, &asked.question, &mut words[..length]);
             self.rooms += 1;
             if code != WRONG_ROOM || words != [u64::MAX; 5] {
-                let reply = format!("room {length}: ours {code}, {words:x?}");
-                self.tell(at, question, &reply);
+                self.different_rooms += 1;
+                self.tell(at, asked, || {
+                    format!("room {length}: ours {code}, {words:x?}")
+                });
             }
         }
     }
 
-    fn tell(&mut self, at: usize, question: &Question, replies: &str) {
-        let (k, game) = (question.k, question.game);
-        let counts = match question.hand() {
-            Some(hand) => written(&hand.counts),
-            None => format!("{:?}", question.counts),
-        };
-        let line = format!("{counts}  k {k}  game {game}\n    {replies}");
-        self.different.push((at, line));
+    /// The line is made only where it may be printed: a thread asks in order.
+    fn tell(&mut self, at: usize, asked: &Asked, replies: impl FnOnce() -> String) {
+        if self.first.len() < PRINTED {
+            let question = written_question(&asked.question);
+            let line = format!("{question}\n    {}", replies());
+            self.first.push((at, line));
+        }
     }
 
     pub fn with(mut self, other: Tally) -> Tally {
-        for (row, others) in self.asked.iter_mut().zip(other.asked) {
-            row.iter_mut().zip(others).for_each(|(n, more)| *n += more);
-        }
-        let codes = self.codes.iter_mut().zip(other.codes);
-        codes.for_each(|(n, more)| *n += more);
+        self.asked = self.asked.with(&other.asked);
+        self.different = self.different.with(&other.different);
+        self.searched = self.searched.with(&other.searched);
+        self.different_search = self.different_search.with(&other.different_search);
         self.rooms += other.rooms;
-        self.different.extend(other.different);
+        self.different_rooms += other.different_rooms;
+        self.first.extend(other.first);
         self
     }
 
     /// Something was asked and nothing was different.
     pub fn is_clean(&self) -> bool {
-        self.codes.iter().sum::<usize>() > 0 && self.different.is_empty()
+        let different = self.different.sum() + self.different_search.sum() + self.different_rooms;
+        self.asked.sum() > 0 && different == 0
     }
 
     pub fn print(&self) {
-        self.print_asked();
-        let [accepted, refused @ ..] = self.codes;
-        println!("accepted {accepted}");
-        for (code, times) in (1..).zip(refused) {
-            println!("refused with {code}: {times}");
-        }
+        self.asked.print("fast form");
+        self.searched.print("search");
         println!("asked with another room than three words: {}", self.rooms);
-        let mut first: Vec<_> = self.different.iter().collect();
+        for (name, different) in [
+            ("different", &self.different),
+            ("search differs", &self.different_search),
+        ] {
+            if different.sum() > 0 {
+                different.print(name);
+            }
+        }
+        let mut first: Vec<_> = self.first.iter().collect();
         first.sort();
         for (_, line) in first.into_iter().take(PRINTED) {
             println!("different: {line}");
         }
-        println!("different {}", self.different.len());
-    }
-
-    fn print_asked(&self) {
-        let names = ["k 0", "k 1", "k 2", "k 3", "k 4", "other k", "all"];
-        print_row("", names);
-        for (name, row) in ["game 3", "game 4", "other games"].iter().zip(self.asked) {
-            let [a, b, c, d, e, f] = row;
-            print_row(name, [a, b, c, d, e, f, row.iter().sum()]);
-        }
+        print_end("fast form", self.asked.sum(), self.different.sum());
+        print_end("search", self.searched.sum(), self.different_search.sum());
+        print_end("other rooms", self.rooms, self.different_rooms);
     }
 }
 
-fn print_row(name: &str, cells: [impl Display; 7]) {
-    print!("{name:14}");
-    cells.iter().for_each(|cell| print!("{cell:>10}"));
-    println!();
+fn replies(entry: Entry, asked: &Asked) -> (Reply, Reply) {
+    let question = &asked.question;
+    let theirs = Reply::by(mapped::answer, question);
+    (theirs, Reply::ours(entry, question))
+}
+
+fn written_question(question: &Question) -> String {
+    let counts = match question.hand() {
+        Some(hand) => written(&hand.counts),
+        None => format!("{:?}", question.counts),
+    };
+    format!("{counts}  k {}  game {}", question.k, question.game)
+}
+
+fn print_end(name: &str, asked: usize, different: usize) {
+    println!("{name}: asked {asked}, different {different}");
 }
 
 #[cfg(test)]
 mod tests {
     use super::*;
 
+    fn asked() -> Asked {
+        let question = Question::new(&[0; 34], 4, 3);
+        Asked { question, sort: 0 }
+    }
+
     #[test]
     fn one_difference_is_enough() {
-        let question = Question::new(&[0; 34], 4, 3);
         let mut tally = Tally::default();
         assert!(!tally.is_clean());
-        tally.count(&question, 0);
+        tally.asked.add(&asked(), 0);
         assert!(tally.is_clean());
-        let mut other = Tally::default();
-        other.count(&question, 6);
-        other.tell(7, &question, "Rust this, ours that");
-        let both = tally.with(other);
-        assert!(!both.is_clean());
-        assert_eq!(both.asked[0], [0, 0, 0, 0, 2, 0]);
-        assert_eq!(both.codes, [1, 0, 0, 0, 0, 0, 1]);
+        let spoilt: [fn(&mut Tally); 3] = [
+            |tally| tally.different.add(&asked(), 6),
+            |tally| tally.different_search.add(&asked(), 0),
+            |tally| tally.different_rooms += 1,
+        ];
+        for spoil in spoilt {
+            let mut other = Tally::default();
+            other.asked.add(&asked(), 0);
+            spoil(&mut other);
+            let same = Tally::default().with(other);
+            assert!(!same.is_clean());
+        }
+    }
+
+    #[test]
+    fn the_first_differences_are_kept() {
+        let mut tally = Tally::default();
+        for at in 0..9 {
+            tally.tell(at, &asked(), || format!("Rust this, ours that, {at}"));
+        }
+        assert_eq!(tally.first.len(), PRINTED);
+        assert!(tally.first[0].1.ends_with("ours that, 0"));
     }
 }

@@ -11,8 +11,17 @@ use super::inputs::{record, refused};
 /// How many records the program reads at once: those of 65,520 bytes.
 const BUFFER: usize = 1_820;
 
-/// A searched hand takes some time where the program is emulated: so many to a file at most.
+/// So many hands to a file at most that are not refused: by the search one takes some time where
+/// the program is emulated, and the Rust source searches for those of the fast form.
 const SEARCHED: usize = 6;
+const FAST: usize = 30;
+
+/// The way the program is asked to answer.
+#[derive(Clone, Copy, PartialEq)]
+pub enum Form {
+    Fast,
+    Search,
+}
 
 pub enum Delivery {
     File,
@@ -25,6 +34,7 @@ pub enum Delivery {
 }
 
 pub struct Input {
+    pub form: Form,
     pub kind: &'static str,
     pub bytes: Vec<u8>,
     pub delivery: Delivery,
@@ -34,7 +44,7 @@ pub struct Input {
 type Way = fn(&mut Random, usize) -> Delivery;
 
 /// Seven kinds and 36 lengths have no common divisor, so each kind comes with each length.
-pub fn input(random: &mut Random, at: usize) -> Input {
+pub fn input(random: &mut Random, form: Form, at: usize) -> Input {
     let few = random.below(30);
     let many = BUFFER * (1 + random.below(2)) - 6 + random.below(12);
     let (kind, count, way): (_, _, Way) = match at % 7 {
@@ -43,21 +53,27 @@ pub fn input(random: &mut Random, at: usize) -> Input {
         2 => ("over the buffer, from a file", many, file),
         3 => ("over the buffer, in parts", many, large_parts),
         4 => ("one by one", few, one_by_one),
-        5 => return empty(random),
+        5 => return empty(random, form),
         _ => ("closed early", many, closing),
     };
-    let bytes = records(random, count, at % HAND_RECORD);
+    let accepted = match form {
+        Form::Fast => FAST,
+        Form::Search => SEARCHED,
+    };
+    let bytes = records(random, count, accepted, at % HAND_RECORD);
     let delivery = way(random, bytes.len());
     Input {
+        form,
         kind,
         bytes,
         delivery,
     }
 }
 
-fn empty(random: &mut Random) -> Input {
+fn empty(random: &mut Random, form: Form) -> Input {
     let ways: [Way; 2] = [file, small_parts];
     Input {
+        form,
         kind: "empty",
         bytes: Vec::new(),
         delivery: random.pick(&ways)(random, 0),
@@ -85,11 +101,11 @@ fn closing(random: &mut Random, _: usize) -> Delivery {
     Delivery::Closing(random.below(30_000))
 }
 
-/// So many records, of which a few are searched, some of them beside the seam of two buffers;
-/// then a last piece of a record.
-fn records(random: &mut Random, count: usize, last: usize) -> Vec<u8> {
+/// So many records, of which a few need not be refused, some of them beside the seam of two
+/// buffers; then a last piece of a record.
+fn records(random: &mut Random, count: usize, accepted: usize, last: usize) -> Vec<u8> {
     let mut records: Vec<Vec<u8>> = (0..count).map(|_| refused(random)).collect();
-    for _ in 0..SEARCHED.min(count) {
+    for _ in 0..accepted.min(count) {
         let places = [random.below(count), BUFFER - 1, BUFFER];
         let at = (*random.pick(&places)).min(count - 1);
         records[at] = record(random);

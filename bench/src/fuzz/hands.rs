@@ -1,4 +1,5 @@
-//! The hand entry of the library: any counts, any k and game, any room of words.
+//! The hand entries of the library, by the fast form and by the search: any counts, any k and
+//! game, any room of words.
 
 use oracle::hand::question::Question;
 use oracle::random::Random;
@@ -7,7 +8,7 @@ use super::hex::hex;
 use super::inputs::{Piece, byte, piece};
 use super::laid::Laid;
 use super::tally::Tally;
-use crate::ours;
+use crate::ours::{self, Entry};
 use crate::reply::Reply;
 
 const MOST_COUNTS: usize = 80;
@@ -19,6 +20,14 @@ const WORDS: usize = 12;
 const NO_ROOM: u8 = 8;
 
 pub fn ask(random: &mut Random, tally: &mut Tally) {
+    ask_entry(ours::hand, random, tally);
+}
+
+pub fn ask_search(random: &mut Random, tally: &mut Tally) {
+    ask_entry(ours::hand_search, random, tally);
+}
+
+fn ask_entry(entry: Entry, random: &mut Random, tally: &mut Tally) {
     let (kind, question) = question(random);
     let places = match random.below(6) {
         0 => random.below(MOST_WORDS + 1),
@@ -36,7 +45,7 @@ pub fn ask(random: &mut Random, tally: &mut Tally) {
     let counts = &laid.bytes[laid.piece.clone()];
     let mut words = before;
     let room = &mut words[from..from + places];
-    let ours = ours::hand(counts, question.k, question.game, room);
+    let ours = entry(counts, question.k, question.game, room);
     tally.hold(ours == code && words == wanted, || {
         let (k, game) = (question.k, question.game);
         let asked = format!("counts {} k {k} game {game} room {places}", hex(counts));

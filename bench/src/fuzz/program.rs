@@ -1,4 +1,4 @@
-//! The program, `./annotate`: whole inputs, each delivered in its way.
+//! The program, `./annotate` and `./annotate --search`: whole inputs, each delivered in its way.
 
 use std::fs;
 
@@ -7,14 +7,22 @@ use oracle::merged;
 use oracle::random::Random;
 use oracle::record::{ANSWER_RECORD, answers};
 
-use super::files::{Delivery, Input, input};
+use super::files::{Delivery, Form, Input, input};
 use super::hex::hex;
 use super::started::{Ran, run};
 use super::tally::Tally;
 
 pub fn ask(random: &mut Random, tally: &mut Tally) {
+    ask_form(Form::Fast, random, tally);
+}
+
+pub fn ask_search(random: &mut Random, tally: &mut Tally) {
+    ask_form(Form::Search, random, tally);
+}
+
+fn ask_form(form: Form, random: &mut Random, tally: &mut Tally) {
     let at = tally.count();
-    let input = input(random, at);
+    let input = input(random, form, at);
     tally.asked(input.kind);
     tally.met("last pieces", input.bytes.len() % HAND_RECORD);
     let wanted = wanted(&input);
@@ -50,7 +58,11 @@ fn ended_well(input: &Input, ran: &Ran) -> bool {
 
 /// The input is kept in a file, to be asked again.
 fn told(at: usize, input: &Input, ran: &Ran, wanted: &[u8]) -> String {
-    let kept = format!("bench/target/fuzz-{at}.hands");
+    let form = match input.form {
+        Form::Fast => "fast",
+        Form::Search => "search",
+    };
+    let kept = format!("bench/target/fuzz-{form}-{at}.hands");
     let kept = match fs::write(&kept, &input.bytes) {
         Ok(()) => kept,
         Err(error) => format!("{kept} ({error})"),

@@ -11,7 +11,7 @@ use std::time::{Duration, Instant};
 use oracle::hand::HAND_RECORD;
 use oracle::record::ANSWER_RECORD;
 
-use super::files::{Delivery, Input};
+use super::files::{Delivery, Form, Input};
 
 /// A program that takes longer hangs; the slowest input takes some seconds under emulation.
 const LIMIT: Duration = Duration::from_secs(60);
@@ -60,7 +60,12 @@ fn start(input: &Input) -> io::Result<Child> {
         }
         _ => Stdio::piped(),
     };
+    let words: &[&str] = match input.form {
+        Form::Fast => &[],
+        Form::Search => &["--search"],
+    };
     Command::new("./annotate")
+        .args(words)
         .process_group(0)
         .stdin(stdin)
         .stdout(Stdio::piped())

@@ -1,4 +1,4 @@
-//! The suit entries of the library: any counts, any pairs and melds.
+//! The suit entries of the library, one goal to a call: any counts, any pairs and melds.
 
 use oracle::answer::Answer;
 use oracle::make::suits::sorts;
@@ -35,7 +35,7 @@ pub fn ask(random: &mut Random, tally: &mut Tally) {
 }
 
 /// Half are suits that no refusal fits; the rest are cut from the pieces of the other parts.
-fn counts(random: &mut Random, suit: Suit) -> (&'static str, Vec<u8>) {
+pub fn counts(random: &mut Random, suit: Suit) -> (&'static str, Vec<u8>) {
     let mut counts = plausible(random, suit);
     match random.below(4) {
         0..2 => ("plausible", counts),
@@ -71,7 +71,7 @@ fn goal(random: &mut Random) -> Goal {
 }
 
 /// The code, and the word that holds it and the rest.
-fn expected(suit: Suit, counts: &[u8], goal: Goal) -> (u8, Word) {
+pub fn expected(suit: Suit, counts: &[u8], goal: Goal) -> (u8, Word) {
     match refusal(&Question::one(suit, goal, counts)) {
         Some(reason) => (reason.number(), of_refusal(reason)),
         None => (0, of_answer(&searched::answer(suit, counts, goal))),

@@ -6,36 +6,32 @@ use oracle::hand::Hand;
 use oracle::standard::{remember, search_hand};
 use oracle::{mapped, merged};
 
-use crate::ours;
+use crate::ours::{self, Entry};
 
 pub struct Side {
     pub name: &'static str,
     pub ask: fn(&Hand),
 }
 
+const fn side(name: &'static str, ask: fn(&Hand)) -> Side {
+    Side { name, ask }
+}
+
 /// In the order of the columns.
 pub const SIDES: [Side; 4] = [
-    Side {
-        name: "Rust, plain",
-        ask: plain,
-    },
-    Side {
-        name: "Rust",
-        ask: once,
-    },
-    Side {
-        name: "ours",
-        ask: ours,
-    },
-    Side {
-        name: "maps",
-        ask: maps,
-    },
+    side("Rust", once),
+    side("search", search),
+    side("fast", fast),
+    side("maps", maps),
 ];
 
-pub const RUST: usize = 1;
-pub const OURS: usize = 2;
+pub const RUST: usize = 0;
+pub const SEARCH: usize = 1;
+pub const FAST: usize = 2;
 pub const MAPS: usize = 3;
+
+/// Those of the Rust source alone that search.
+pub const PLAIN: [Side; 2] = [side("Rust, plain", plain), side("Rust", once)];
 
 /// The three entry points of the Rust source, each of their twenty lookups a search.
 fn plain(hand: &Hand) {
@@ -52,9 +48,19 @@ fn once(hand: &Hand) {
 }
 
 /// Everything in one call, with the checks, kinds and live.
-fn ours(hand: &Hand) {
+fn search(hand: &Hand) {
+    call(ours::hand_search, hand);
+}
+
+/// The same by the fast form.
+fn fast(hand: &Hand) {
+    call(ours::hand, hand);
+}
+
+#[inline(always)]
+fn call(entry: Entry, hand: &Hand) {
     let mut room = [0; 3];
-    black_box(ours::hand(&hand.counts, hand.k, hand.game, &mut room));
+    black_box(entry(&hand.counts, hand.k, hand.game, &mut room));
     black_box(room);
 }
 

@@ -6,15 +6,22 @@ use oracle::hand::{HAND_RECORD, Hand};
 use oracle::make::questions::sorts::parts;
 use oracle::random::Random;
 
-use super::side::HANDS;
 use crate::fuzz::inputs::refused;
 use crate::hands::groups::groups;
+
+/// Where a file stands, and where it stands repeated.
+const HANDS: &str = "bench/target/program.hands";
+const REPEATED: &str = "bench/target/program.repeated";
 
 /// Of hands as they are in play, so many to a file: the time must grow as they do.
 const GROWING: [usize; 4] = [250, 500, 1_000, 2_000];
 
-/// So many hands of each kind; those of a group come again and again.
+/// So many hands of each kind; a hand that is alone in its group comes again and again.
 const OF_A_KIND: usize = 200;
+
+/// The fast form gets each file so many times over: a start takes longer than a few hundred
+/// hands.
+const TIMES: usize = 100;
 
 /// So many records are made that are refused, and repeated up to so many.
 const REFUSED: usize = 10_000;
@@ -25,6 +32,8 @@ pub struct File {
     bytes: Vec<u8>,
     /// Whether there are hands in it that are searched.
     pub is_searched: bool,
+    /// How often the fast form gets it.
+    pub times: usize,
 }
 
 impl File {
@@ -33,6 +42,7 @@ impl File {
             name: name.into(),
             bytes: hands.flat_map(Hand::record).collect(),
             is_searched: true,
+            times: TIMES,
         }
     }
 
@@ -41,6 +51,7 @@ impl File {
             name: name.into(),
             bytes,
             is_searched: false,
+            times: 1,
         }
     }
 
@@ -52,9 +63,12 @@ impl File {
         self.bytes.len() as f64 / 1e6
     }
 
-    /// Puts it where both are started with it.
-    pub fn lay(&self) -> io::Result<()> {
-        fs::write(HANDS, &self.bytes)
+    /// Puts it where all are started with it, and repeated where the fast form is; gives both
+    /// places.
+    pub fn lay(&self) -> io::Result<(&'static str, &'static str)> {
+        fs::write(HANDS, &self.bytes)?;
+        fs::write(REPEATED, self.bytes.repeat(self.times))?;
+        Ok((HANDS, REPEATED))
     }
 }
 
@@ -85,7 +99,7 @@ fn played(count: usize) -> Vec<Hand> {
 }
 
 /// Records of every number that a record can be refused with.
-pub fn some_refused() -> Vec<u8> {
+fn some_refused() -> Vec<u8> {
     let mut random = Random::new(1);
     (0..REFUSED).flat_map(|_| refused(&mut random)).collect()
 }

@@ -1,4 +1,4 @@
-//! The two that are held against each other, for each kind of suit. Types and not values, so
+//! The three that are held against each other, for each kind of suit. Types and not values, so
 //! that each call is known when the loops around it are compiled.
 
 use std::fmt::Debug;
@@ -6,7 +6,7 @@ use std::fmt::Debug;
 use oracle::searched::{self, Found};
 use oracle::suit::Goal;
 
-use crate::ours::{self, Word};
+use crate::ours::{self, TEN, Word};
 
 pub trait Sides {
     type Counts: Debug;
@@ -14,7 +14,10 @@ pub trait Sides {
     /// The Rust source: its search with a fresh target and its own starting bound.
     fn theirs(counts: &Self::Counts, goal: Goal) -> Found;
 
-    fn ours(counts: &Self::Counts, goal: Goal) -> Word;
+    fn search(counts: &Self::Counts, goal: Goal) -> Word;
+
+    /// All ten goals in one call.
+    fn fast(counts: &Self::Counts) -> [Word; TEN];
 }
 
 pub struct Ranks;
@@ -28,8 +31,12 @@ impl Sides for Ranks {
         searched::ranks(counts, goal)
     }
 
-    fn ours(counts: &[u8; 9], goal: Goal) -> Word {
+    fn search(counts: &[u8; 9], goal: Goal) -> Word {
         ours::ranks(counts, goal)
+    }
+
+    fn fast(counts: &[u8; 9]) -> [Word; TEN] {
+        ours::ranks_goals(counts)
     }
 }
 
@@ -40,8 +47,12 @@ impl Sides for Honours {
         searched::honours(counts, goal)
     }
 
-    fn ours(counts: &[u8; 7], goal: Goal) -> Word {
+    fn search(counts: &[u8; 7], goal: Goal) -> Word {
         ours::honours(counts, goal)
+    }
+
+    fn fast(counts: &[u8; 7]) -> [Word; TEN] {
+        ours::honours_goals(counts)
     }
 }
 
@@ -52,7 +63,11 @@ impl Sides for Ends {
         searched::ends(counts, goal)
     }
 
-    fn ours(counts: &[u8; 9], goal: Goal) -> Word {
+    fn search(counts: &[u8; 9], goal: Goal) -> Word {
         ours::ends(counts, goal)
+    }
+
+    fn fast(counts: &[u8; 9]) -> [Word; TEN] {
+        ours::ends_goals(counts)
     }
 }

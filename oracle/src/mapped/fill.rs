@@ -15,29 +15,55 @@ use super::zipai_table::ZIPAI_SIZE;
 use crate::hand::Hand;
 use crate::standard::search_hand;
 use crate::suit::Suit;
+use crate::words::Words;
 
-/// Searches the suits of these hands; what is published of 1m/9m is there already. It can be
-/// done once only, as the maps do not change while they are looked up.
+/// Searches the suits of these hands.
 pub fn fill(hands: &[Hand]) {
-    let mut ranks = Filling::new(SHUPAI_SIZE);
-    let mut honours = Filling::new(ZIPAI_SIZE);
+    let mut maps = Maps::default();
     for hand in hands {
         for ((suit, counts), words) in zip(hand.suits(), search_hand(hand)) {
-            match suit {
-                Suit::Ranks => ranks.put(hash_shupai(counts), &words),
-                Suit::Honours => honours.put(hash_zipai(counts), &words),
-                Suit::Ends => (),
-            }
+            maps.put(suit, counts, &words);
         }
     }
-    ranks.lend(
-        &SHUPAI_REPLACEMENT_NUMBER_MAP,
-        &SHUPAI_NECESSARY_TILES_MAP,
-        &SHUPAI_UNNECESSARY_TILES_MAP,
-    );
-    honours.lend(
-        &ZIPAI_REPLACEMENT_NUMBER_MAP,
-        &ZIPAI_NECESSARY_TILES_MAP,
-        &ZIPAI_UNNECESSARY_TILES_MAP,
-    );
+    maps.lend();
+}
+
+/// The maps while they are filled.
+pub struct Maps {
+    ranks: Filling,
+    honours: Filling,
+}
+
+impl Default for Maps {
+    fn default() -> Self {
+        Maps {
+            ranks: Filling::new(SHUPAI_SIZE),
+            honours: Filling::new(ZIPAI_SIZE),
+        }
+    }
+}
+
+impl Maps {
+    /// What is published of 1m/9m is there already.
+    pub fn put(&mut self, suit: Suit, counts: &[u8], words: &Words) {
+        match suit {
+            Suit::Ranks => self.ranks.put(hash_shupai(counts), words),
+            Suit::Honours => self.honours.put(hash_zipai(counts), words),
+            Suit::Ends => (),
+        }
+    }
+
+    /// It can be done once only, as the maps do not change while they are looked up.
+    pub fn lend(self) {
+        self.ranks.lend(
+            &SHUPAI_REPLACEMENT_NUMBER_MAP,
+            &SHUPAI_NECESSARY_TILES_MAP,
+            &SHUPAI_UNNECESSARY_TILES_MAP,
+        );
+        self.honours.lend(
+            &ZIPAI_REPLACEMENT_NUMBER_MAP,
+            &ZIPAI_NECESSARY_TILES_MAP,
+            &ZIPAI_UNNECESSARY_TILES_MAP,
+        );
+    }
 }
