@@ -42,17 +42,25 @@ pub fn compare(plan: &Plan) -> io::Result<bool> {
     Ok(tally.is_clean())
 }
 
-/// Every so many questions one is asked of the search.
-fn step(plan: &Plan) -> Option<usize> {
-    plan.count.max(1).checked_div(plan.search.min(plan.count))
+impl Plan {
+    /// How many questions are searched: no more than there are.
+    fn searched(&self) -> usize {
+        self.search.min(self.count)
+    }
+
+    /// Whether the question at this place is: as many as there are to be, evenly spread, the
+    /// first of all among them.
+    fn is_searched(&self, at: usize) -> bool {
+        let before = |at| (at as u128 * self.searched() as u128).div_ceil(self.count as u128);
+        before(at) < before(at + 1)
+    }
 }
 
 fn all(questions: &Questions, plan: &Plan) -> Tally {
-    let step = step(plan);
     let tallies = shared(questions.blocks(), |tally: &mut Tally, block| {
         for (at, asked) in questions.block(block) {
             tally.ask(at, &asked);
-            if step.is_some_and(|step| at.is_multiple_of(step)) {
+            if plan.is_searched(at) {
                 tally.ask_search(at, &asked);
             }
         }
@@ -71,7 +79,7 @@ fn print_estimate(questions: &Questions, plan: &Plan) {
     let tried = block.iter().take(TRIED);
     tried.for_each(|(at, asked)| tally.ask_search(*at, asked));
     let one_search = begun.elapsed().as_secs_f64() / TRIED as f64;
-    let searched = plan.search.min(plan.count);
+    let searched = plan.searched();
     let work = one * plan.count as f64 + one_search * searched as f64;
     let (count, threads) = (plan.count, threads());
     print!("{count} questions, {searched} of them asked of the search as well, ");
@@ -79,4 +87,45 @@ fn print_estimate(questions: &Questions, plan: &Plan) {
         "threads {threads}: about {:.0} seconds",
         work / threads as f64
     );
+}
+
+#[cfg(test)]
+mod tests {
+    use super::*;
+
+    /// The places that are searched.
+    fn places(count: usize, search: usize) -> Vec<usize> {
+        let plan = Plan {
+            seed: 1,
+            count,
+            search,
+            cache: false,
+        };
+        (0..count).filter(|&at| plan.is_searched(at)).collect()
+    }
+
+    #[test]
+    fn as_many_as_the_plan_says_evenly_spread() {
+        for (count, search) in [
+            (1_999, 1_000),
+            (116_000, 1_000),
+            (1_001, 7),
+            (10, 10),
+            (9, 1),
+        ] {
+            let places = places(count, search);
+            assert_eq!((places[0], places.len()), (0, search));
+            let ends = places[1..].iter().chain([&count]);
+            let (least, most) = (count / search, count.div_ceil(search));
+            for (at, next) in places.iter().zip(ends) {
+                assert!(
+                    (least..=most).contains(&(next - at)),
+                    "{count} {search} {at}"
+                );
+            }
+        }
+        assert_eq!(places(5, 8), [0, 1, 2, 3, 4]);
+        assert_eq!(places(5, 0), []);
+        assert_eq!(places(0, 8), []);
+    }
 }

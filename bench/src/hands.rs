@@ -6,20 +6,22 @@ mod plain;
 mod sides;
 mod tables;
 
-use std::hint::black_box;
 use std::ops::Range;
 
 use oracle::hand::Hand;
 use oracle::mapped;
 use oracle::show::written_hand;
 
-use crate::group::{Group, agree, boxed};
+use crate::group::{Group, Side, agree, boxed, names};
 use crate::ours;
 use crate::reply::Reply;
-use crate::times::Times;
+use crate::times::print_micros;
 use groups::Named;
 pub use plain::measure as measure_plain;
-use sides::{SIDES, Side};
+use sides::SIDES;
+use tables::WIDTH;
+
+const MICROS: &str = "microseconds a hand";
 
 /// Says whether all answers were the same; if not, nothing is measured.
 pub fn measure() -> bool {
@@ -29,16 +31,7 @@ pub fn measure() -> bool {
     if !agree(&groups, 3) {
         return false;
     }
-    tables::print_head(
-        "microseconds a hand",
-        &SIDES.each_ref().map(|side| side.name),
-    );
-    let mut times = Vec::new();
-    for group in &groups {
-        let measured = Times::measure(group.as_ref());
-        tables::print_micros(&measured);
-        times.push(measured);
-    }
+    let times = print_micros(&groups, MICROS, &names(&SIDES), WIDTH);
     tables::print_ratios(&times);
     tables::print_rates(&times);
     true
@@ -47,11 +40,11 @@ pub fn measure() -> bool {
 /// Hands that are measured together, and who is asked for them.
 struct Hands {
     named: Named,
-    sides: &'static [Side],
+    sides: &'static [Side<Hand>],
 }
 
 impl Hands {
-    fn new(named: Named, sides: &'static [Side]) -> Self {
+    fn new(named: Named, sides: &'static [Side<Hand>]) -> Self {
         Hands { named, sides }
     }
 }
@@ -75,10 +68,7 @@ impl Group for Hands {
     }
 
     fn ask(&self, side: usize, part: Range<usize>) {
-        let ask = self.sides[side].ask;
-        for hand in &self.named.hands[part] {
-            ask(black_box(hand));
-        }
+        self.sides[side].ask_each(&self.named.hands[part]);
     }
 }
 

@@ -14,3 +14,6 @@ pub mod program;
 pub mod reply;
 pub mod suits;
 pub mod times;
+
+/// So many differences are printed.
+const PRINTED: usize = 5;

@@ -12,6 +12,12 @@ pub type Word = u64;
 /// How many goals a suit has.
 pub const TEN: usize = 10;
 
+/// The code where the room is not as long as what is written there.
+pub const WRONG_ROOM: u8 = 8;
+
+/// How many records the program reads at once: those of 65,520 bytes.
+pub const READ_AT_ONCE: usize = 1_820;
+
 /// Counts and room, and how many there are of each.
 type AskGoals = unsafe extern "C" fn(*const u8, usize, *mut Word, usize) -> u8;
 
@@ -48,6 +54,15 @@ unsafe extern "C" {
     fn lastavon_ends_goals(counts: *const u8, length: usize, out: *mut Word, places: usize) -> u8;
 
     fn lastavon_record(hand: *const u8, length: usize, answer: *mut u8, room: usize) -> u8;
+}
+
+/// What is found for a goal, as its word: with code and index 0.
+pub fn word(
+    number: impl Into<Word>,
+    necessary: impl Into<Word>,
+    unnecessary: impl Into<Word>,
+) -> Word {
+    number.into() | necessary.into() << 8 | unnecessary.into() << 24
 }
 
 // Each call lends the counts for its own time, as many as it names, and any bytes will do:

@@ -1,18 +1,39 @@
-//! Where the time of a fast hand goes: its suits, its checks and the rest, which is the merge;
-//! beside it the merge of the Rust source alone.
+//! Where the time of a fast hand goes: its suits, its checks and the rest, which is the merge and
+//! little beside it; and the merge of the Rust source alone.
 
 mod case;
 mod sides;
 mod tables;
 
-use std::hint::black_box;
 use std::ops::Range;
+use std::time::{Duration, Instant};
 
-use crate::group::{Group, agree, boxed};
-use crate::hands::groups::{Named, groups};
-use crate::times::Times;
+use crate::group::{Group, agree, boxed, names};
+use crate::hands::groups::{Named, all, groups};
+use crate::times::print_micros;
 use case::Case;
 use sides::SIDES;
+
+/// Of a column.
+const WIDTH: usize = 12;
+
+/// So long a profiler looks on.
+const LONG: Duration = Duration::from_secs(5);
+
+/// Asks the fast form for the hands of all groups again and again, for a profiler (`bench/profile`).
+pub fn repeat() {
+    let hands = all(&groups());
+    let (start, mut rounds) = (Instant::now(), 0);
+    while start.elapsed() < LONG {
+        hands.iter().for_each(sides::ask_hand);
+        rounds += 1;
+    }
+    let micros = start.elapsed().as_secs_f64() * 1e6;
+    println!(
+        "{:.3} microseconds a hand",
+        micros / (rounds * hands.len()) as f64
+    );
+}
 
 /// Says whether all answers were the same; if not, nothing is measured.
 pub fn measure() -> bool {
@@ -20,14 +41,9 @@ pub fn measure() -> bool {
     if !agree(&groups, case::ANSWERS) {
         return false;
     }
-    tables::print_head();
-    let mut times = Vec::new();
-    for group in &groups {
-        let measured = Times::measure(group.as_ref());
-        tables::print_micros(&measured);
-        times.push(measured);
-    }
-    tables::print_merges(&times);
+    let what = "microseconds a hand, the fast form";
+    let times = print_micros(&groups, what, &names(&SIDES), WIDTH);
+    tables::print_left(&times);
     true
 }
 
@@ -63,9 +79,6 @@ impl Group for Parts {
     }
 
     fn ask(&self, side: usize, part: Range<usize>) {
-        let ask = SIDES[side].ask;
-        for case in &self.cases[part] {
-            ask(black_box(case));
-        }
+        SIDES[side].ask_each(&self.cases[part]);
     }
 }

@@ -9,6 +9,8 @@ mod timed;
 
 use std::io;
 
+use oracle::record::ANSWER_RECORD;
+
 use files::File;
 use side::Sides;
 use timed::{NAMES, ROUNDS, Timed};
@@ -39,7 +41,7 @@ fn agree(files: &[File], sides: &Sides) -> io::Result<bool> {
         let same = sides.search.answers(few)? == theirs
             && sides.fast.answers(many)? == theirs.repeat(file.times);
         bytes += theirs.len() * (1 + file.times);
-        if !same || theirs.len() != 16 * file.count() {
+        if !same || theirs.len() != ANSWER_RECORD * file.count() {
             println!("different: {}", file.name);
             different += 1;
         }

@@ -6,12 +6,11 @@ mod sides;
 use std::hint::black_box;
 use std::ops::Range;
 
-use oracle::searched::Found;
 use oracle::suit::GOALS;
 
 use crate::clock::ROUNDS;
 use crate::group::{Group, agree};
-use crate::ours::Word;
+use crate::ours::word;
 use crate::times::Times;
 use sides::Sides;
 
@@ -79,7 +78,9 @@ impl<S: Sides> Group for Suits<S> {
         let mut different = Vec::new();
         for counts in &self.suits {
             for (goal, fast) in GOALS.into_iter().zip(S::fast(counts)) {
-                let (theirs, search) = (word(S::theirs(counts, goal)), S::search(counts, goal));
+                let (number, necessary, unnecessary) = S::theirs(counts, goal);
+                let theirs = word(number, necessary, unnecessary);
+                let search = S::search(counts, goal);
                 if theirs != search || theirs != fast {
                     let asked = format!("{}, {counts:?}, {goal:?}", self.name);
                     let ours = format!("search {search:#x}, fast {fast:#x}");
@@ -121,9 +122,4 @@ impl<S: Sides> Suits<S> {
             black_box(S::fast(black_box(counts)));
         }
     }
-}
-
-/// What the Rust source found, as our word: with code and index 0.
-fn word((number, necessary, unnecessary): Found) -> Word {
-    Word::from(number) | Word::from(necessary) << 8 | Word::from(unnecessary) << 24
 }

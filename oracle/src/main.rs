@@ -9,7 +9,7 @@ use oracle::hand::Hand;
 use oracle::hand::question::Question as HandQuestion;
 use oracle::hand::record::answers as hand_answers;
 use oracle::judge::print_counts;
-use oracle::options::Options;
+use oracle::options::{Options, ended};
 use oracle::record::answers;
 use oracle::show::show;
 use oracle::suit::question::Question as SuitQuestion;
@@ -38,14 +38,7 @@ const USAGE: &str = "usage:
 fn main() -> ExitCode {
     let mut words = env::args().skip(1);
     let command = words.next().unwrap_or_default();
-    match run(&command, words) {
-        Ok(true) => ExitCode::SUCCESS,
-        Ok(false) => ExitCode::from(1),
-        Err(message) => {
-            eprintln!("{message}\n{USAGE}");
-            ExitCode::from(2)
-        }
-    }
+    ended(run(&command, words), USAGE)
 }
 
 /// Says whether the command found nothing wrong.

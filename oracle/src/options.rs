@@ -1,4 +1,6 @@
-//! The `--name value` options of a command.
+//! The `--name value` options of a command, and how it ends.
+
+use std::process::ExitCode;
 
 pub struct Options {
     words: Vec<String>,
@@ -37,6 +39,19 @@ impl Options {
         match self.words.first() {
             Some(word) => Err(format!("not understood: {word}")),
             None => Ok(()),
+        }
+    }
+}
+
+/// With 0, or with 1 where something was different or wrong; with 2 and a message where it could
+/// not be done.
+pub fn ended(done: Result<bool, String>, usage: &str) -> ExitCode {
+    match done {
+        Ok(true) => ExitCode::SUCCESS,
+        Ok(false) => ExitCode::from(1),
+        Err(message) => {
+            eprintln!("{message}\n{usage}");
+            ExitCode::from(2)
         }
     }
 }

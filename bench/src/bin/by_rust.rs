@@ -9,13 +9,11 @@ use std::env;
 use std::io::{self, Read, Write};
 
 use bench::maps::fill_kept;
+use bench::ours::READ_AT_ONCE;
 use oracle::hand::{HAND_RECORD, Hand};
 use oracle::mapped;
 use oracle::record::answers;
 use oracle::refusal::refusal;
-
-/// With maps so many records are read at once, as our program does.
-const RECORDS: usize = 1_820;
 
 fn main() -> io::Result<()> {
     match env::args().nth(1).as_deref() {
@@ -38,13 +36,14 @@ fn accepted(input: &[u8]) -> Vec<Hand> {
         .collect()
 }
 
+/// As many records are read at once as our program reads.
 fn by_maps() -> io::Result<()> {
     fill_kept()?;
     let (mut input, mut output) = (io::stdin().lock(), io::stdout().lock());
     let mut part = Vec::new();
     loop {
         part.clear();
-        let most = (RECORDS * HAND_RECORD) as u64;
+        let most = (READ_AT_ONCE * HAND_RECORD) as u64;
         input.by_ref().take(most).read_to_end(&mut part)?;
         if part.is_empty() {
             return output.flush();

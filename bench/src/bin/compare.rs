@@ -4,19 +4,12 @@ use std::env;
 use std::process::ExitCode;
 
 use bench::compare::{Plan, compare};
-use oracle::options::Options;
+use oracle::options::{Options, ended};
 
 const USAGE: &str = "usage: bench/compare [--seed S] [--count N] [--search M] [--cache]";
 
 fn main() -> ExitCode {
-    match run(Options::new(env::args().skip(1))) {
-        Ok(true) => ExitCode::SUCCESS,
-        Ok(false) => ExitCode::from(1),
-        Err(message) => {
-            eprintln!("{message}\n{USAGE}");
-            ExitCode::from(2)
-        }
-    }
+    ended(run(Options::new(env::args().skip(1))), USAGE)
 }
 
 /// Says whether nothing was different.

@@ -4,19 +4,12 @@ use std::env;
 use std::process::ExitCode;
 
 use bench::fuzz::fuzz;
-use oracle::options::Options;
+use oracle::options::{Options, ended};
 
 const USAGE: &str = "usage: bench/fuzz [--seconds N] [--seed S]";
 
 fn main() -> ExitCode {
-    match run(Options::new(env::args().skip(1))) {
-        Ok(true) => ExitCode::SUCCESS,
-        Ok(false) => ExitCode::from(1),
-        Err(message) => {
-            eprintln!("{message}\n{USAGE}");
-            ExitCode::from(2)
-        }
-    }
+    ended(run(Options::new(env::args().skip(1))), USAGE)
 }
 
 /// Says whether nothing was different.

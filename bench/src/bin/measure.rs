@@ -5,26 +5,28 @@ use std::env;
 use std::process::ExitCode;
 
 use bench::{hands, parts, suits};
+use oracle::options::ended;
 
-const USAGE: &str = "usage: bench/run [suits|hands|parts|plain]";
+const USAGE: &str = "usage: bench/run [suits|hands|parts|plain|repeat]";
 
 fn main() -> ExitCode {
     let words: Vec<String> = env::args().skip(1).collect();
     let words: Vec<&str> = words.iter().map(String::as_str).collect();
-    let same = match words[..] {
+    ended(run(&words), USAGE)
+}
+
+/// Says whether nothing was different.
+fn run(words: &[&str]) -> Result<bool, String> {
+    Ok(match words {
         [] => suits::measure() && hands::measure() && parts::measure(),
         ["suits"] => suits::measure(),
         ["hands"] => hands::measure(),
         ["parts"] => parts::measure(),
         ["plain"] => hands::measure_plain(),
-        _ => {
-            eprintln!("{USAGE}");
-            return ExitCode::from(2);
+        ["repeat"] => {
+            parts::repeat();
+            true
         }
-    };
-    if same {
-        ExitCode::SUCCESS
-    } else {
-        ExitCode::from(1)
-    }
+        _ => return Err(format!("not understood: {}", words.join(" "))),
+    })
 }

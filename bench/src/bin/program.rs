@@ -7,19 +7,12 @@ use std::process::ExitCode;
 
 use bench::program::side::Sides;
 use bench::program::{many, measure};
-use oracle::options::Options;
+use oracle::options::{Options, ended};
 
 const USAGE: &str = "usage: bench/program [--groups | --many] [--count N]";
 
 fn main() -> ExitCode {
-    match run(env::args().skip(1)) {
-        Ok(true) => ExitCode::SUCCESS,
-        Ok(false) => ExitCode::from(1),
-        Err(message) => {
-            eprintln!("{message}\n{USAGE}");
-            ExitCode::from(2)
-        }
-    }
+    ended(run(env::args().skip(1)), USAGE)
 }
 
 /// Says whether nothing was different.
@@ -30,6 +23,9 @@ fn run(mut words: impl Iterator<Item = String>) -> Result<bool, String> {
     let many_alone = options.flag("--many");
     let count = options.number("--count", 10_000_000)? as usize;
     options.end()?;
+    if groups_alone && many_alone {
+        return Err("--groups or --many, and not both".into());
+    }
     let sides = sides(&words.collect::<Vec<_>>())?;
     let failed = |error| format!("bench/program: {error}");
     let groups_same = many_alone || measure(&sides).map_err(failed)?;

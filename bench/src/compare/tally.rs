@@ -6,17 +6,12 @@ use oracle::notation::written;
 
 use super::asked::Asked;
 use super::cells::Cells;
-use crate::ours::{self, Entry};
+use crate::PRINTED;
+use crate::ours::{self, Entry, WRONG_ROOM};
 use crate::reply::Reply;
-
-/// So many differences are printed.
-const PRINTED: usize = 5;
 
 /// One question in so many is asked with the wrong room for the answer as well.
 const ROOMS: usize = 20;
-
-/// The code for another room than three words.
-const WRONG_ROOM: u8 = 8;
 
 #[derive(Default)]
 pub struct Tally {

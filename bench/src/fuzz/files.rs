@@ -7,9 +7,7 @@ use oracle::hand::HAND_RECORD;
 use oracle::random::Random;
 
 use super::inputs::{record, refused};
-
-/// How many records the program reads at once: those of 65,520 bytes.
-const BUFFER: usize = 1_820;
+use crate::ours::READ_AT_ONCE as BUFFER;
 
 /// So many hands to a file at most that are not refused: by the search one takes some time where
 /// the program is emulated, and the Rust source searches for those of the fast form.

@@ -7,14 +7,12 @@ use super::hex::hex;
 use super::laid::Laid;
 use super::suits::{counts, expected};
 use super::tally::Tally;
-use crate::ours::{self, TEN, Word};
+use crate::ours::{self, TEN, WRONG_ROOM, Word};
 
 const MOST_WORDS: usize = 14;
 
 /// The room stands in the middle of so many words.
 const WORDS: usize = 20;
-
-const NO_ROOM: u8 = 8;
 
 pub fn ask(random: &mut Random, tally: &mut Tally) {
     let suit = *random.pick(&SUITS);
@@ -51,7 +49,7 @@ fn wanted(
     places: usize,
 ) -> (u8, [Word; WORDS]) {
     if places != TEN {
-        return (NO_ROOM, before);
+        return (WRONG_ROOM, before);
     }
     let (mut code, mut words) = (0, before);
     for (goal, word) in GOALS.into_iter().zip(&mut words[from..]) {
@@ -68,7 +66,7 @@ mod tests {
     fn ten_words_and_nothing_beside_them() {
         let before = [7; WORDS];
         let asked = |places| wanted(Suit::Honours, &[4; 7], before, 3, places);
-        assert_eq!(asked(9), (NO_ROOM, before));
+        assert_eq!(asked(9), (WRONG_ROOM, before));
         let (code, words) = asked(TEN);
         assert_eq!(code, 5);
         assert_eq!(words[3..13], [5 << 48; TEN]);

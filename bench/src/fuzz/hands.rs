@@ -8,7 +8,7 @@ use super::hex::hex;
 use super::inputs::{Piece, byte, piece};
 use super::laid::Laid;
 use super::tally::Tally;
-use crate::ours::{self, Entry};
+use crate::ours::{self, Entry, WRONG_ROOM};
 use crate::reply::Reply;
 
 const MOST_COUNTS: usize = 80;
@@ -16,8 +16,6 @@ const MOST_WORDS: usize = 6;
 
 /// The room stands in the middle of so many words.
 const WORDS: usize = 12;
-
-const NO_ROOM: u8 = 8;
 
 pub fn ask(random: &mut Random, tally: &mut Tally) {
     ask_entry(ours::hand, random, tally);
@@ -71,7 +69,7 @@ fn expected(
     places: usize,
 ) -> (u8, [u64; WORDS]) {
     if places != 3 {
-        return (NO_ROOM, before);
+        return (WRONG_ROOM, before);
     }
     let reply = Reply::theirs(question);
     let mut wanted = before;

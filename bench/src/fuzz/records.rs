@@ -11,14 +11,13 @@ use super::hex::hex;
 use super::inputs::{Piece, piece};
 use super::laid::Laid;
 use super::tally::Tally;
-use crate::ours;
+use crate::ours::{self, WRONG_ROOM};
 
 const MOST_BYTES: usize = 100;
 const MOST_ROOM: usize = 40;
 
-/// The numbers that a record has beside those of a hand (document 01, "Refusal numbers").
+/// The number of a piece of another length (document 01, "Refusal numbers").
 const BROKEN: u8 = 7;
-const NO_ROOM: u8 = 8;
 
 pub fn ask(random: &mut Random, tally: &mut Tally) {
     let Piece { kind, bytes } = piece(random, MOST_BYTES);
@@ -55,7 +54,7 @@ pub fn ask(random: &mut Random, tally: &mut Tally) {
 fn expected(piece: &[u8], laid: &Laid) -> (u8, Vec<u8>) {
     let mut wanted = laid.bytes.clone();
     if laid.room.len() != ANSWER_RECORD {
-        return (NO_ROOM, wanted);
+        return (WRONG_ROOM, wanted);
     }
     let answer = answer(piece);
     wanted[laid.room.clone()].copy_from_slice(&answer);
@@ -83,7 +82,7 @@ mod tests {
         let piece = vec![byte; length];
         let laid = Laid::new(&mut Random::new(1), &piece, room);
         let (code, wanted) = expected(&piece, &laid);
-        assert_eq!(code != NO_ROOM, wanted != laid.bytes);
+        assert_eq!(code != WRONG_ROOM, wanted != laid.bytes);
         assert!(!differ_outside(&laid.bytes, &wanted, &laid.room));
         code
     }
@@ -92,8 +91,8 @@ mod tests {
     fn the_room_is_tested_before_the_length() {
         assert_eq!(code(0, 35, 16), BROKEN);
         assert_eq!(code(0, 0, 16), BROKEN);
-        assert_eq!(code(0, 37, 15), NO_ROOM);
-        assert_eq!(code(0, 36, 17), NO_ROOM);
+        assert_eq!(code(0, 37, 15), WRONG_ROOM);
+        assert_eq!(code(0, 36, 17), WRONG_ROOM);
         assert_eq!(code(0, 36, 16), 1);
         assert_eq!(code(4, 36, 16), 5);
     }

@@ -12,7 +12,7 @@ use super::hex::hex;
 use super::inputs::{byte, damage, piece};
 use super::laid::Laid;
 use super::tally::Tally;
-use crate::ours::{self, Word};
+use crate::ours::{self, Word, word};
 
 const MOST_COUNTS: usize = 20;
 
@@ -26,11 +26,11 @@ pub fn ask(random: &mut Random, tally: &mut Tally) {
     tally.met("offsets of the counts", laid.piece.start);
     let (code, wanted) = expected(suit, &counts, goal);
     tally.code(code);
-    let word = ours::suit(suit, &laid.bytes[laid.piece.clone()], goal);
-    tally.hold(word == wanted, || {
+    let ours = ours::suit(suit, &laid.bytes[laid.piece.clone()], goal);
+    tally.hold(ours == wanted, || {
         let (pairs, melds) = (goal.pairs, goal.melds);
         let asked = format!("{suit:?} {} pairs {pairs} melds {melds}", hex(&counts));
-        format!("{asked}: Rust {wanted:#x}; ours {word:#x}")
+        format!("{asked}: Rust {wanted:#x}; ours {ours:#x}")
     });
 }
 
@@ -79,7 +79,7 @@ pub fn expected(suit: Suit, counts: &[u8], goal: Goal) -> (u8, Word) {
 }
 
 fn of_answer(answer: &Answer) -> Word {
-    Word::from(answer.number) | answer.necessary << 8 | answer.unnecessary << 24
+    word(answer.number, answer.necessary, answer.unnecessary)
 }
 
 fn of_refusal(reason: Refusal) -> Word {

@@ -2,8 +2,7 @@
 
 use std::collections::{BTreeMap, BTreeSet};
 
-/// So many differences are printed.
-const PRINTED: usize = 5;
+use crate::PRINTED;
 
 #[derive(Default)]
 pub struct Tally {

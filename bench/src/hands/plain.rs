@@ -4,9 +4,10 @@
 use oracle::mapped;
 
 use super::sides::PLAIN;
-use super::{Hands, groups, tables};
-use crate::group::{agree, boxed};
-use crate::times::Times;
+use super::tables::WIDTH;
+use super::{Hands, MICROS, groups};
+use crate::group::{agree, boxed, names};
+use crate::times::print_micros;
 
 /// So many hands of a group.
 const FEW: usize = 10;
@@ -22,12 +23,6 @@ pub fn measure() -> bool {
     if !agree(&groups, 3) {
         return false;
     }
-    tables::print_head(
-        "microseconds a hand",
-        &PLAIN.each_ref().map(|side| side.name),
-    );
-    for group in &groups {
-        tables::print_micros(&Times::measure(group.as_ref()));
-    }
+    print_micros(&groups, MICROS, &names(&PLAIN), WIDTH);
     true
 }

@@ -6,19 +6,11 @@ use oracle::hand::Hand;
 use oracle::standard::{remember, search_hand};
 use oracle::{mapped, merged};
 
+use crate::group::{Side, side};
 use crate::ours::{self, Entry};
 
-pub struct Side {
-    pub name: &'static str,
-    pub ask: fn(&Hand),
-}
-
-const fn side(name: &'static str, ask: fn(&Hand)) -> Side {
-    Side { name, ask }
-}
-
 /// In the order of the columns.
-pub const SIDES: [Side; 4] = [
+pub const SIDES: [Side<Hand>; 4] = [
     side("Rust", once),
     side("search", search),
     side("fast", fast),
@@ -31,7 +23,7 @@ pub const FAST: usize = 2;
 pub const MAPS: usize = 3;
 
 /// Those of the Rust source alone that search.
-pub const PLAIN: [Side; 2] = [side("Rust, plain", plain), side("Rust", once)];
+pub const PLAIN: [Side<Hand>; 2] = [side("Rust, plain", plain), side("Rust", once)];
 
 /// The three entry points of the Rust source, each of their twenty lookups a search.
 fn plain(hand: &Hand) {

@@ -3,7 +3,11 @@
 use super::sides::{FAST, MAPS, RUST, SEARCH, SIDES};
 use crate::aim::{Aim, Limit};
 use crate::clock::ROUNDS;
-use crate::times::Times;
+use crate::group::names;
+use crate::times::{Times, print_head, print_start};
+
+/// Of a column of microseconds or rates.
+pub const WIDTH: usize = 14;
 
 const FASTER: Aim = Aim {
     name: "Rust/fast",
@@ -15,27 +19,10 @@ const NEAR: Aim = Aim {
     limit: Limit::AtMost(10.0),
 };
 
-pub fn print_head(what: &str, columns: &[&str]) {
-    println!("{what}: the middle of {ROUNDS} rounds");
-    print!("{:34}{:>6}", "", "hands");
-    columns.iter().for_each(|name| print!("{name:>14}"));
-    println!();
-}
-
-fn print_name(times: &Times) {
-    print!("{:34}{:>6}", times.name, times.size);
-}
-
-pub fn print_micros(times: &Times) {
-    print_name(times);
-    (0..times.sides()).for_each(|side| print!("{:>14.3}", times.micros(side)));
-    println!();
-}
-
 pub fn print_ratios(times: &[Times]) {
     println!("ratios, and whether the goals are met: the middle of {ROUNDS} rounds");
     let columns = [FASTER.name, NEAR.name].map(|name| [name, "lowest-highest", ""]);
-    print!("{:40}", "");
+    print_start("", "");
     for [name, spread, said] in columns {
         print!("{name:>11}{spread:>16}{said:>8}");
     }
@@ -46,7 +33,7 @@ pub fn print_ratios(times: &[Times]) {
 }
 
 fn print_ratios_of(times: &Times) {
-    print_name(times);
+    times.print_name();
     let faster = times.ratio(RUST, FAST);
     print!("{faster:>11.0}{:>16}", times.spread(RUST, FAST, 0));
     print!("{:>8}", FASTER.said(faster));
@@ -61,10 +48,8 @@ fn ratios(times: &[Times], side: usize, to: usize) -> Vec<f64> {
 }
 
 pub fn print_rates(times: &[Times]) {
-    print_head("hands a second", &SIDES.each_ref().map(|side| side.name));
+    print_head("hands a second", &names(&SIDES), WIDTH);
     for group in times {
-        print_name(group);
-        (0..group.sides()).for_each(|side| print!("{:>14.0}", 1e6 / group.micros(side)));
-        println!();
+        group.print_line(WIDTH, 0, |side| 1e6 / group.micros(side));
     }
 }

@@ -11,7 +11,7 @@ use oracle::standard::{search_hand, unpack};
 use oracle::suit::Suit;
 use oracle::words::Goals;
 
-use crate::ours::{self, TEN, Word};
+use crate::ours::{self, TEN, Word, word};
 use crate::reply::Reply;
 
 pub struct Case {
@@ -132,6 +132,6 @@ fn fill(counts: &mut [u8]) {
 fn words(values: &Goals) -> [Word; TEN] {
     std::array::from_fn(|goal| {
         let (number, necessary, unnecessary) = values.at(goal);
-        Word::from(number) | Word::from(necessary) << 8 | Word::from(unnecessary) << 24
+        word(number, necessary, unnecessary)
     })
 }

@@ -4,21 +4,14 @@ use std::hint::black_box;
 
 use oracle::hand::Hand;
 use oracle::mapped::merges;
+use oracle::record::ANSWER_RECORD;
 
 use super::case::Case;
+use crate::group::{Side, side};
 use crate::ours;
 
-pub struct Side {
-    pub name: &'static str,
-    pub ask: fn(&Case),
-}
-
-const fn side(name: &'static str, ask: fn(&Case)) -> Side {
-    Side { name, ask }
-}
-
 /// In the order of the columns.
-pub const SIDES: [Side; 7] = [
+pub const SIDES: [Side<Case>; 7] = [
     side("hand", hand),
     side("record", record),
     side("suits", suits),
@@ -33,7 +26,6 @@ pub const SUITS: usize = 2;
 pub const CHECKS: usize = 3;
 pub const SUIT_CHECKS: usize = 4;
 pub const MERGE: usize = 5;
-pub const SETS: usize = 6;
 
 fn hand(case: &Case) {
     ask_hand(&case.hand);
@@ -45,14 +37,14 @@ fn checks(case: &Case) {
 }
 
 #[inline(always)]
-fn ask_hand(hand: &Hand) {
+pub fn ask_hand(hand: &Hand) {
     let mut room = [0; 3];
     black_box(ours::hand(&hand.counts, hand.k, hand.game, &mut room));
     black_box(room);
 }
 
 fn record(case: &Case) {
-    let mut room = [0; 16];
+    let mut room = [0; ANSWER_RECORD];
     black_box(ours::record(&case.record, &mut room));
     black_box(room);
 }

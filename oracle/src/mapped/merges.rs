@@ -30,14 +30,27 @@ pub fn sets(suits: &Suits, k: u8) -> [(u8, TileFlags); 2] {
     [necessary::merged(suits, k), unnecessary::merged(suits, k)]
 }
 
-/// As the entry points do it for a suit: its place among m, p, s and z says how far its sets
-/// are shifted.
-#[inline]
-fn entry(suits: &Suits, at: usize, sets: impl Fn(&Goals) -> &[u16; 10]) -> Entry {
-    Entry {
+/// As the entry points of both sets do it, given the sets of a suit and the two merges. These are
+/// types of their own and no pointers, so that each call is known when it is compiled.
+#[inline(always)]
+fn merged_set(
+    suits: &Suits,
+    k: u8,
+    sets: impl Fn(&Goals) -> &[u16; 10],
+    update: impl Fn(&mut Entry, &Entry),
+    update_final: impl Fn(&mut Entry, &Entry),
+) -> (u8, TileFlags) {
+    // its place among m, p, s and z says how far the sets of a suit are shifted
+    let entry = |at: usize| Entry {
         numbers: suits[at].numbers,
         tiles: sets(&suits[at]).map(|set| TileFlags::from(set) << (9 * at)),
-    }
+    };
+    let mut first = entry(0);
+    update(&mut first, &entry(1));
+    update(&mut first, &entry(2));
+    update_final(&mut first, &entry(3));
+    let n = 5 + usize::from(k);
+    (first.numbers[n] as u8, first.tiles[n])
 }
 
 // Of the sources only the merges are called here.
@@ -59,13 +72,7 @@ mod necessary {
     include!("../../verbatim/src/standard/necessary_tiles.rs");
 
     pub fn merged(suits: &super::Suits, k: u8) -> (u8, TileFlags) {
-        let entry = |at| super::entry(suits, at, |suit| &suit.necessary);
-        let mut first = entry(0);
-        update_dp(&mut first, &entry(1));
-        update_dp(&mut first, &entry(2));
-        update_dp_final(&mut first, &entry(3));
-        let n = 5 + usize::from(k);
-        (first.numbers[n] as u8, first.tiles[n])
+        super::merged_set(suits, k, |suit| &suit.necessary, update_dp, update_dp_final)
     }
 }
 
@@ -74,13 +81,13 @@ mod unnecessary {
     include!("../../verbatim/src/standard/unnecessary_tiles.rs");
 
     pub fn merged(suits: &super::Suits, k: u8) -> (u8, TileFlags) {
-        let entry = |at| super::entry(suits, at, |suit| &suit.unnecessary);
-        let mut first = entry(0);
-        update_dp(&mut first, &entry(1));
-        update_dp(&mut first, &entry(2));
-        update_dp_final(&mut first, &entry(3));
-        let n = 5 + usize::from(k);
-        (first.numbers[n] as u8, first.tiles[n])
+        super::merged_set(
+            suits,
+            k,
+            |suit| &suit.unnecessary,
+            update_dp,
+            update_dp_final,
+        )
     }
 }
 

@@ -12,10 +12,10 @@ const PART: usize = 65_536 * ANSWER_RECORD;
 
 /// Says whether there are as many answers as there should be and all are the same.
 pub fn all(scratch: &Scratch, count: usize) -> io::Result<bool> {
-    let lengths = [length(&scratch.ours)?, length(&scratch.rust)?];
+    let (ours, rust) = (length(&scratch.ours)?, length(&scratch.rust)?);
     let right = (count * ANSWER_RECORD) as u64;
-    if lengths != [right; 2] {
-        println!("{right} bytes of answers are expected: ours {lengths:?} the Rust source's");
+    if ours != right || rust != right {
+        println!("{right} bytes of answers are expected: ours {ours}, the Rust source {rust}");
         return Ok(false);
     }
     let (mut ours, mut rust) = (open(&scratch.ours)?, open(&scratch.rust)?);
