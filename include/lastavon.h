@@ -72,7 +72,7 @@ uint8_t lastavon_hand(const uint8_t *counts, size_t length, uint8_t k, uint8_t g
 
 /*
  * The same answers and refusals in another way: each suit's targets are tried one after the other, where lastavon_hand
- * fills in a table. It takes about a thousand times as long, and is here to be compared with.
+ * fills in a table. It takes hundreds of times as long, and is here to be compared with.
  */
 uint8_t lastavon_hand_search(const uint8_t *counts, size_t length, uint8_t k, uint8_t game, uint64_t *words,
                              size_t places);

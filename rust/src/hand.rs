@@ -21,7 +21,7 @@ pub fn answer(counts: &[u8], k: u8, game: u8) -> Result<Answer, Refusal> {
 }
 
 /// The same answer as [`answer`] gives, in another way: the targets of each suit are tried one after the other. It takes
-/// about a thousand times as long, and is here to be compared with.
+/// hundreds of times as long, and is here to be compared with.
 pub fn answer_by_search(counts: &[u8], k: u8, game: u8) -> Result<Answer, Refusal> {
     told(raw::hand_search(counts, k, game))
 }

@@ -25,7 +25,7 @@ pub fn answer(counts: &[u8], k: u8, game: u8) -> HandAnswer
     answer_by(Way::Search, counts, k, game)
 }
 
-// The same answer, about a thousand times faster: with each suit's goals from a table.
+// The same answer, hundreds of times faster: with each suit's goals from a table.
 pub fn fast_answer(counts: &[u8], k: u8, game: u8) -> HandAnswer
     ensures { λ r. ⌜ HandPromised game k (now (counts .entry)) r ⌝ }
 {
