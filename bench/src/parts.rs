@@ -20,9 +20,12 @@ const WIDTH: usize = 12;
 /// So long a profiler looks on.
 const LONG: Duration = Duration::from_secs(5);
 
-/// Asks the fast form for the hands of all groups again and again, for a profiler (`bench/profile`).
-pub fn repeat() {
-    let hands = all(&groups());
+/// Asks the fast form for the hands of all groups, or of those whose name begins so, again and
+/// again, for a profiler (`bench/profile`).
+pub fn repeat(name: &str) {
+    let mut groups = groups();
+    groups.retain(|group| group.name.starts_with(name));
+    let hands = all(&groups);
     let (start, mut rounds) = (Instant::now(), 0);
     while start.elapsed() < LONG {
         hands.iter().for_each(sides::ask_hand);

@@ -7,7 +7,7 @@ use std::process::ExitCode;
 use bench::{hands, parts, suits};
 use oracle::options::ended;
 
-const USAGE: &str = "usage: bench/run [suits|hands|parts|plain|repeat]";
+const USAGE: &str = "usage: bench/run [suits|hands|parts|plain|repeat [GROUP]]";
 
 fn main() -> ExitCode {
     let words: Vec<String> = env::args().skip(1).collect();
@@ -23,8 +23,8 @@ fn run(words: &[&str]) -> Result<bool, String> {
         ["hands"] => hands::measure(),
         ["parts"] => parts::measure(),
         ["plain"] => hands::measure_plain(),
-        ["repeat"] => {
-            parts::repeat();
+        ["repeat", name @ ..] if name.len() < 2 => {
+            parts::repeat(name.first().unwrap_or(&""));
             true
         }
         _ => return Err(format!("not understood: {}", words.join(" "))),
