@@ -9,8 +9,8 @@ use oracle::random::Random;
 use super::inputs::{record, refused};
 use crate::ours::READ_AT_ONCE as BUFFER;
 
-/// So many hands to a file at most that are not refused: by the search one takes some time where
-/// the program is emulated, and the Rust source searches for those of the fast form.
+/// So many hands to a file at most that are not refused: the search takes its time for each, and
+/// the Rust source searches for those of the fast form too.
 const SEARCHED: usize = 6;
 const FAST: usize = 30;
 

@@ -47,13 +47,16 @@ fn wanted(input: &Input) -> Vec<u8> {
     }
 }
 
-/// With status 0 and no word; only a reader who closes early may end it otherwise.
+/// What a shell tells of a filter whose reader is gone.
+const READER_GONE: i32 = 141;
+
+/// With no word and status 0; with another where the reader closes early.
 fn ended_well(input: &Input, ran: &Ran) -> bool {
-    match (&input.delivery, ran.status) {
-        (_, None) => false,
-        (Delivery::Closing(_), Some(status)) => !status.success(),
-        (_, Some(status)) => status.success() && ran.said.is_empty(),
-    }
+    let status = match input.delivery {
+        Delivery::Closing(_) => READER_GONE,
+        _ => 0,
+    };
+    ran.said.is_empty() && ran.status.and_then(|ended| ended.code()) == Some(status)
 }
 
 /// The input is kept in a file, to be asked again.

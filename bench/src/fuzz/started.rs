@@ -13,7 +13,7 @@ use oracle::record::ANSWER_RECORD;
 
 use super::files::{Delivery, Form, Input};
 
-/// A program that takes longer hangs; the slowest input takes some seconds under emulation.
+/// A program that takes longer hangs.
 const LIMIT: Duration = Duration::from_secs(60);
 
 /// Where an input stands that is delivered as a file.
