@@ -5,10 +5,10 @@ ghost use Rattle.tile.specs.Suits.{whole_of};
 
 use crate::suits::SuitZ;
 
-#[derive(Drop)]
+#[derive(Clone, Copy)]
 pub struct FourPlayer;
 
-#[derive(Drop)]
+#[derive(Clone, Copy)]
 pub struct ThreePlayer;
 
 // Whether a hand may hold a tile: one of the 34, and none of 2m to 8m where the game is for three players.

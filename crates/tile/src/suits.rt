@@ -3,13 +3,13 @@ ghost use Rattle.std.specs.Prelude.{◌≡◌};
 ghost use Rattle.tile.specs.Suits.{place_of};
 
 // A suit's part of the 34 counts.
-#[derive(Drop)]
+#[derive(Clone, Copy)]
 pub struct Place {
     pub offset: usize,
     pub length: usize,
 }
 
-#[derive(Drop)]
+#[derive(Clone, Copy)]
 pub struct SuitM;
 
 impl SuitM {
@@ -27,7 +27,7 @@ impl SuitM {
     }
 }
 
-#[derive(Drop)]
+#[derive(Clone, Copy)]
 pub struct SuitP;
 
 impl SuitP {
@@ -45,7 +45,7 @@ impl SuitP {
     }
 }
 
-#[derive(Drop)]
+#[derive(Clone, Copy)]
 pub struct SuitS;
 
 impl SuitS {
@@ -63,7 +63,7 @@ impl SuitS {
     }
 }
 
-#[derive(Drop)]
+#[derive(Clone, Copy)]
 pub struct SuitZ;
 
 impl SuitZ {
