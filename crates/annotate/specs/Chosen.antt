@@ -2,8 +2,7 @@
 -- Assumes nothing.
 use Rattle.std.specs.Prelude.{Bool, true, false, cond, ◌&&◌, List, [], ◌∷◌, ℕ, eqb, ltb}
 use Rattle.annotate.specs.declared.way.Choice.{Choice}
-use Rattle.annotate.specs.declared.way.Choice.TheVariants.{Take, Help}
-use Rattle.hand.specs.declared.way.Way.TheVariants.{Search, Table}
+use Rattle.annotate.specs.declared.way.Choice.TheVariants.{Table, Search, Help}
 
 -- the bytes of `--search`
 abbrev pub search_text : List ℕ
@@ -19,4 +18,4 @@ alike (x ∷ xs) (y ∷ ys) = eqb x y && alike xs ys
 -- what `count` words choose, the program's name the first of them and text the second: the name alone the table, `--search` alone behind it the
 -- search, anything else help
 abbrev pub chosen : ℕ → List ℕ → Choice
-chosen count text = cond (ltb count 2) (Take Table) (cond (eqb count 2 && alike text search_text) (Take Search) Help)
+chosen count text = cond (ltb count 2) Table (cond (eqb count 2 && alike text search_text) Search Help)

@@ -1,32 +1,24 @@
 // Many records: each answer in its own sixteen bytes.
-ghost use Rattle.std.specs.Prelude.{◌≡◌, ◌*◌, ◌≤◌, min, length};
+ghost use Rattle.std.specs.Prelude.{◌*◌, ◌≤◌, length};
 ghost use Rattle.records.specs.Many.{pieces, Filled};
 
 use crate::reply::reply;
 use hand::way::Way;
 use records::bytes::{ANSWER, HAND};
-use records::put::put;
 
-fn least(a: usize, b: usize) -> usize
-    ensures { result ≡ min a b }
-{
-    if a < b { a } else { b }
-}
-
-// Answers all pieces of `hands`, in order, at the start of `out`. The number of bytes written is returned.
-pub(crate) fn answers(hands: &[u8], out: &mut [u8], way: Way) -> usize
+// Answers all pieces of `hands`, in order, at the start of `out`. The number of bytes written is returned. By index and not by `chunks` beside
+// `chunks_mut`: `Filled` speaks of piece i and place i, and a chain would have to count them again.
+pub(crate) fn answers<W: Way>(hands: &[u8], out: &mut [u8]) -> usize
     requires { pieces hands.now * 16 ≤ length out.old }
     ensures { Filled hands.now out.old result out.new }
 {
-    let n = (hands.len() + (HAND - 1)) / HAND;
-    let mut i = 0;
-    while i < n {
+    let n = hands.len().div_ceil(HAND);
+    for i in 0..n {
         let from = i * HAND;
-        let to = least(from + HAND, hands.len());
-        let bytes = reply(&hands[from..to], way);
+        let to = (from + HAND).min(hands.len());
+        let bytes = reply::<W>(&hands[from..to]);
         let at = i * ANSWER;
-        put(&mut out[at..at + ANSWER], bytes);
-        i += 1;
+        out[at..at + ANSWER].copy_from_slice(&bytes);
     }
     n * ANSWER
 }

@@ -1,8 +1,3 @@
--- For the code of this crate.
-mod Few
-mod Barred
-mod Faults
-mod Looked
 -- For callers.
-pub mod Game
+pub mod Once
 pub mod Sum

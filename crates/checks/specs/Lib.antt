@@ -1,3 +1,1 @@
-pub mod Barred
 pub mod Checked
-pub mod Over

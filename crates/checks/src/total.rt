@@ -2,18 +2,15 @@
 ghost use Rattle.std.specs.Prelude.{◌≡◌, min, length};
 ghost use Rattle.tile.specs.Count.{sum_to};
 
-// Any counts may be summed: 255 stands for every sum of 255 and more, so that none wraps.
+/// Any counts may be summed: 255 stands for every sum of 255 and more, so that none wraps.
+// No `Option` for these: the promise is an equation with `min`.
+#[tactic(auto, using(crate::proofs::Sum::sum_none, crate::proofs::Sum::sum_more))]
 pub fn total(counts: &[u8]) -> u8
     ensures { result ≡ min (sum_to (length counts.now) counts.now) 255 }
 {
     let mut sum: u8 = 0;
-    let mut i: usize = 0;
-    while i < counts.len() {
-        if 255 - sum < counts[i] {
-            return 255;
-        }
-        sum += counts[i];
-        i += 1;
+    for count in counts {
+        sum = sum.saturating_add(*count);
     }
     sum
 }

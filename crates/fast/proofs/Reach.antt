@@ -55,11 +55,23 @@ tries_few true held = omega arith
 tries_few false true = omega arith
 tries_few false false = omega arith
 
+-- ---- every word is low
+
+end_low : (near far p : ℕ) → Low (end_row near far p)
+end_low near far p =
+    by_test Low (eqb p 0) (λ t. cons_low 0 (replicate most_melds none_word) (omega arith) (replicate_low most_melds none_word (omega arith)))
+    (λ t. replicate_low wide none_word (omega arith))
+
+pub low_end : Low (filled end_row 1 1)
+low_end = filled_low end_row 1 1 (omega arith) (omega arith) end_low
+
+pub low_before : (next adds : List ℕ) (n nears fars : ℕ) → nears ≤ 3 → fars ≤ 3 → Low (filled (best_row next adds n) nears fars)
+low_before next adds n nears fars few too = filled_low (best_row next adds n) nears fars few too (best_low next adds n)
+
 -- ---- ranks
 
 -- the array holds the cells of rank i
 pub record Reached (b : Board) (h : List ℕ) (i : ℕ) (cells : List ℕ) : Type 0 where
-  pub low : Low cells
   pub holds : Holds i (length (drop i h)) (nears_at b i) (fars_at b i) (cell b (drop i h) i) cells
 
 module _ (b : Board) (h : List ℕ) where
@@ -69,16 +81,10 @@ module _ (b : Board) (h : List ℕ) where
   end_word i near far zero (suc m) l k = rw eqb-suc-zero (get_or-replicate most_melds m none_word 0 (omega arith) ∙ omega arith)
   end_word i near far (suc p) m l k = rw eqb-suc-zero (get_or-replicate wide m none_word 0 k ∙ omega arith)
 
-  end_low : (near far p : ℕ) → Low (end_row near far p)
-  end_low near far p =
-      by_test Low (eqb p 0) (λ t. cons_low 0 (replicate most_melds none_word) (omega arith) (replicate_low most_melds none_word (omega arith)))
-      (λ t. replicate_low wide none_word (omega arith))
-
   -- past the last rank
   pub reached_end : nears_at b (length h) ≤ 1 → fars_at b (length h) ≤ 1 → Reached b h (length h) (filled end_row 1 1)
   reached_end one too =
       record {
-        low = filled_low end_row 1 1 (omega arith) (omega arith) end_low;
         holds = record {
           beside = beside_at end_row 1 1 (omega arith) (omega arith);
           small = cell_small b (drop (length h) h) (length h);
@@ -104,7 +110,6 @@ module _ (b : Board) (h : List ℕ) where
     pub reached_before : Reached b h i (filled rows (nears_at b i) (fars_at b i))
     reached_before =
         record {
-          low = filled_low rows (nears_at b i) (fars_at b i) (nears_few b i) (fars_few b i) (best_low next (adds_of (get_or h i 0) (2 ^ i)) (choices_at b i));
           holds = record {
             beside = beside_at rows (nears_at b i) (fars_at b i) (nears_few b i) (fars_few b i);
             small = cell_small b (drop i h) i;

@@ -11,7 +11,7 @@ use Rattle.tile.specs.Goals.{GoalsPromised}
 use Rattle.tile.specs.declared.found.Found.{Found}
 use Rattle.tile.specs.declared.one_suit.Suit.{Suit}
 use Rattle.tile.specs.declared.one_suit.Suit.TheVariants.{Ranks, Honours, Ends}
-use Rattle.tile.specs.declared.refusal.Checked.TheVariants.{Fine}
+use Rattle.std.specs.Prelude.{Ok}
 use Rattle.tile.proofs.Suit.{right_once}
 use Rattle.walk.specs.Walk.{searched}
 use Rattle.walk.proofs.Right.{ranks_right, honours_right, ends_right}
@@ -23,6 +23,6 @@ searched_right Honours p m h one four = honours_right p m h most_tiles one (omeg
 searched_right Ends p m h one four = ends_right p m h most_tiles one (omega arith) (omega arith)
 
 -- so for every suit that is not refused; a refusal is the same too, and so are any two results that keep the promise (`goals_once` in tile)
-pub as_searched : (s : Suit) (h : List ℕ) (r : List Found) → GoalsPromised (board_of s) h Fine r
+pub as_searched : (s : Suit) (h : List ℕ) (r : List Found) {done : Unit {0}} → GoalsPromised (board_of s) h (Ok done) r
     → (g : ℕ) → g < 10 → get_or r g blank ≡ searched (board_of s) h most_tiles (g / 5) (g % 5)
 as_searched s h r (fine, all) g l = right_once (all.each g l) (searched_right s (g / 5) (g % 5) h (omega arith) (omega arith))

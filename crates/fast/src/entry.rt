@@ -4,28 +4,26 @@ ghost use Rattle.tile.specs.Goals.{GoalsPromised};
 
 use crate::found::found_for;
 use checks::check::check;
-use checks::tiles::Tiles;
-use tile::found::Found;
-use tile::one_suit::{Suit, SuitGoals};
-use tile::refusal::Checked;
+use tile::one_suit::{Goals, Suit, SuitGoals};
+use tile::refusal::Reason;
+use tile::suit_tiles::SuitTiles;
+use tile::way;
+use tile::way::Way;
 
-// The answers for the ten goals: goal 5p + m is p pairs and m melds.
+/// From a table that is filled rank by rank.
+#[derive(Clone, Copy, Debug, PartialEq, Eq)]
+pub struct Table;
+
+impl Way for Table {
+    fn goals<S: SuitTiles>(counts: &[u8]) -> Result<Goals, Reason> {
+        check::<S>(counts, 0, 0)?;
+        Ok(found_for::<S>(counts))
+    }
+}
+
+/// The answers for the ten goals: goal 5p + m is p pairs and m melds.
 pub fn goals(suit: Suit, counts: &[u8]) -> SuitGoals
     ensures { GoalsPromised (board_of suit) counts.now result.checked result.goals }
 {
-    let checked = check(Tiles::Part(suit), counts, 0, 0);
-    let Checked::Fine = checked else {
-        return SuitGoals {
-            checked: checked,
-            goals: [Found {
-                number: 0,
-                necessary: 0,
-                unnecessary: 0,
-            }; 10],
-        };
-    };
-    SuitGoals {
-        checked: checked,
-        goals: found_for(suit, counts),
-    }
+    way::goals::<Table>(suit, counts)
 }

@@ -8,9 +8,22 @@ const WIDE: usize = 5;
 // How many stand before it: as many as a choice has melds at most.
 const BEFORE: usize = 2;
 
-pub(crate) fn row_place(near: usize, far: usize, left: usize) -> usize
-    requires { (near ≤ 2) × (far ≤ 2) × (left ≤ 1) }
-    ensures { result ≡ row_place near far left }
-{
-    (WIDE + BEFORE) * (6 * near + 2 * far + left) + BEFORE
+// A state, and how many pairs are to be laid: `near` and `far` sequences run into the rank.
+#[derive(Clone, Copy)]
+pub(crate) struct State {
+    pub(crate) near: usize,
+    pub(crate) far: usize,
+    pub(crate) left: usize,
+    ghost near_few: { near ≤ 2 },
+    ghost far_few: { far ≤ 2 },
+    ghost left_few: { left ≤ 1 },
+}
+
+impl State {
+    // Where its row begins.
+    pub(crate) fn place(self) -> usize
+        ensures { result ≡ row_place self.near self.far self.left }
+    {
+        (WIDE + BEFORE) * (6 * self.near + 2 * self.far + self.left) + BEFORE
+    }
 }

@@ -10,20 +10,14 @@ use native.Mathlib.Omega.{arith}
 use lib.ListN.{length, get_or, take, drop, length-drop, get_or-eq_default}
 use lib.Seq.{length-take-le}
 use lib.Dec.{T}
+use Rattle.std.specs.Prelude.{Result, Ok, Err, IsOk}
 use Rattle.tile.specs.Count.{sum_to}
 use Rattle.tile.specs.Board.{Board, ranks, honours, ends, whole3}
-use Rattle.tile.specs.Target.{Target}
-use Rattle.tile.specs.Answer.{Answer}
-use Rattle.tile.specs.Tally.{kinds_to, live_to}
-use Rattle.tile.specs.Hand.{HandRight}
 use Rattle.tile.specs.Refusal.{Faultless, SuitFault}
 use Rattle.tile.specs.Suits.{whole_of}
-use Rattle.tile.specs.Goals.{GoalsPromised, AllRight}
+use Rattle.tile.specs.Goals.{GoalsFor, AllRight}
 use Rattle.tile.specs.declared.found.Found.{Found}
-use Rattle.tile.specs.declared.one_suit.SuitGoals.{SuitGoals}
-use Rattle.tile.specs.declared.one_hand.HandFound.{HandFound}
-use Rattle.tile.specs.declared.refusal.Checked.{Checked}
-use Rattle.tile.specs.declared.refusal.Checked.TheVariants.{Fine, Faulty}
+use Rattle.tile.specs.declared.refusal.Reason.{Reason}
 use Rattle.tile.proofs.Hand.{whole_kinds}
 use Rattle.tile.proofs.Accepted.{Accepted, accepted, faultless}
 use Rattle.tile.proofs.Counts.{held_inside, sum_further, sum_from}
@@ -32,9 +26,9 @@ use Rattle.tile.proofs.Tests.{at_most_or_over, implied, all_to_lem}
 use Rattle.merge.proofs.Game.{suit_m}
 
 -- what is promised for a suit without a fault is that all is right
-pub right_goals : {b : Board} {h : List ℕ} {r : List Found} (c : Checked) → Accepted b 0 0 h → GoalsPromised b h c r → AllRight b h r
-right_goals Fine ok (fine, all) = all
-right_goals (Faulty q) ok (first, e) = absurd (faultless (λ (unknown : ⊥). unknown) ok q first.holds)
+pub goals_there : (b : Board) (h : List ℕ) (r : Result (List Found) Reason) → Faultless (SuitFault b 0 0 h) → GoalsFor b h r → IsOk r
+goals_there b h (Ok r) none promised = refl
+goals_there b h (Err q) none first = absurd (none q first.holds)
 
 -- ---- a part of the counts
 
@@ -108,21 +102,25 @@ module _ (three_player : Bool) (k : ℕ) (h : List ℕ) (none : Faultless (SuitF
   pub hand_long : length h ≡ 34
   hand_long = ok.long ∙ whole_kinds three_player
 
-  pub all_suits : {b : Board} (m p s z : SuitGoals) → b ≡ suit_m three_player → GoalsPromised b (take 9 (drop 0 h)) m.checked m.goals
-      → GoalsPromised ranks (take 9 (drop 9 h)) p.checked p.goals → GoalsPromised ranks (take 9 (drop 18 h)) s.checked s.goals
-      → GoalsPromised honours (take 7 (drop 27 h)) z.checked z.goals → AllSuits three_player h m.goals p.goals s.goals z.goals
-  all_suits m p s z e in_m in_p in_s in_z =
-      record {
-        in_m = right_goals m.checked (subst (λ (n : ℕ). Accepted (suit_m three_player) 0 0 (take n (drop 0 h))) (m_kinds three_player)
-            (part_accepted ok (suit_m three_player) 0 (omega (arith, m_kinds three_player, hand_long)) (m_barred three_player)))
-            (subst (λ (x : Board). GoalsPromised x (take 9 (drop 0 h)) m.checked m.goals) e in_m);
-        in_p = right_goals p.checked (part_accepted ok ranks 9 (omega (arith, hand_long)) (λ i l x. absurd x)) in_p;
-        in_s = right_goals s.checked (part_accepted ok ranks 18 (omega (arith, hand_long)) (λ i l x. absurd x)) in_s;
-        in_z = right_goals z.checked (part_accepted ok honours 27 (omega (arith, hand_long)) (λ i l x. absurd x)) in_z;
-      }
+  none_in : (b : Board) (o : ℕ) → o + b.kinds ≤ 34 → ((i : ℕ) → i < b.kinds → T (not (b.held i)) → T (not ((whole_of three_player).held (o + i))))
+      → Faultless (SuitFault b 0 0 (take b.kinds (drop o h)))
+  none_in b o inside barred = faultless (λ (unknown : ⊥). unknown) (part_accepted ok b o (omega (arith, inside, hand_long)) barred)
 
--- the five values together, over all 34 tiles
-pub five : (three_player : Bool) {k : ℕ} {h : List ℕ} {r : HandFound} → Answer 34 (Target (whole_of three_player) 1 k) h r.number r.necessary r.unnecessary
-    → r.kinds ≡ kinds_to 34 r.necessary → r.live ≡ live_to 34 r.necessary h → HandRight (whole_of three_player) k h r
-five false answer kinds live = record { answer = answer; kinds = kinds; live = live }
-five true answer kinds live = record { answer = answer; kinds = kinds; live = live }
+  pub none_in_m : Faultless (SuitFault (suit_m three_player) 0 0 (take 9 (drop 0 h)))
+  none_in_m = subst (λ (n : ℕ). Faultless (SuitFault (suit_m three_player) 0 0 (take n (drop 0 h)))) (m_kinds three_player)
+      (none_in (suit_m three_player) 0 (omega (arith, m_kinds three_player)) (m_barred three_player))
+
+  pub none_in_p : Faultless (SuitFault ranks 0 0 (take 9 (drop 9 h)))
+  none_in_p = none_in ranks 9 (omega arith) (λ i l x. absurd x)
+
+  pub none_in_s : Faultless (SuitFault ranks 0 0 (take 9 (drop 18 h)))
+  none_in_s = none_in ranks 18 (omega arith) (λ i l x. absurd x)
+
+  pub none_in_z : Faultless (SuitFault honours 0 0 (take 7 (drop 27 h)))
+  none_in_z = none_in honours 27 (omega arith) (λ i l x. absurd x)
+
+pub all_suits : (three_player : Bool) (h : List ℕ) {b : Board} {m p s z : List Found} → b ≡ suit_m three_player → AllRight b (take 9 (drop 0 h)) m
+    → AllRight ranks (take 9 (drop 9 h)) p → AllRight ranks (take 9 (drop 18 h)) s → AllRight honours (take 7 (drop 27 h)) z
+    → AllSuits three_player h m p s z
+all_suits three_player h {m = m} e in_m in_p in_s in_z =
+    record { in_m = subst (λ (x : Board). AllRight x (take 9 (drop 0 h)) m) e in_m; in_p = in_p; in_s = in_s; in_z = in_z }

@@ -1,15 +1,13 @@
 -- The loops of the merge: the inner one goes through the ways to share out the melds, the outer one makes two goals for each number of them.
 -- Assumes nothing.
-use mathlib.Core.Path.{◌≡◌, ap, ap₂, sym, ◌∙◌}
+use mathlib.Core.Path.{◌≡◌, ap, sym, ◌∙◌}
 use mathlib.Core.List.{List}
 use Prim.Native.Nat.{ℕ, ◌+◌, ◌-◌, ◌≤◌, ◌<◌}
 use native.Mathlib.Omega.{arith}
-use lib.ListN.{length, get_or, set, length-set}
-use lib.Seq.{get_or-set_same, get_or-set_other}
-use borrow.Author.Count.{below_none, below_more}
+use lib.ListN.{get_or}
 use Rattle.hand.specs.declared.packed.Packed.{Packed}
 use Rattle.hand.specs.Words.{sum, meets, meet_to, sum_at}
-use Rattle.hand.specs.Entry.{nothing, bare_at, paired_at, MergedTo, Light, AllLight}
+use Rattle.hand.specs.Entry.{nothing, bare_at, paired_at, Light, AllLight}
 use Rattle.hand.proofs.Packing.{meet_first, meet_next}
 
 -- ---- the inner loop
@@ -52,31 +50,3 @@ module _ {a c : List Packed} {m : ℕ} where
         first = one_more (paired_at a) (bare_at c) m j so_far.first first;
         light = so_far.light;
       }
-
--- ---- the outer loop
-
-pub merged_none : {a c r : List Packed} → length r ≡ 10 → MergedTo 0 a c r
-merged_none ten = record { bare = below_none _; paired = below_none _; ten = ten }
-
-pub merged_more : {a c r : List Packed} {n j : ℕ} {x y z w : Packed} → n < 5 → MergedTo n a c r → Shared a c n j x y z → n ≤ j → w ≡ meets y z
-    → MergedTo (n + 1) a c (set (set r n x) (5 + n) w)
-merged_more {a} {c} {r} {n} {j} {x} {y} {z} {w} room so_far found end paired =
-    record {
-      bare = below_more _ n (λ m l. kept m (omega arith) ∙ get_or-set_other r n m x nothing (λ e. omega arith) ∙ so_far.bare m l)
-          (kept n room ∙ get_or-set_same r n x nothing (omega (arith, so_far.ten)) ∙ found.bare ∙ ap (meet_to _) all);
-      paired = below_more _ n
-          (λ m l.
-          get_or-set_other (set r n x) (5 + n) (5 + m) w nothing (λ e. omega arith)
-          ∙ get_or-set_other r n (5 + m) x nothing (λ e. omega arith)
-          ∙ so_far.paired m l)
-          (get_or-set_same (set r n x) (5 + n) w nothing (omega (arith, so_far.ten, length-set r n x))
-          ∙ paired
-          ∙ ap₂ meets (found.second ∙ ap (meet_to _) all) (found.first ∙ ap (meet_to _) all));
-      ten = simp length-set so_far.ten;
-    }
-  where
-    all : j ≡ n
-    all = omega (arith, found.within)
-
-    kept : (m : ℕ) → m < 5 → bare_at (set (set r n x) (5 + n) w) m ≡ bare_at (set r n x) m
-    kept m l = get_or-set_other (set r n x) (5 + n) m w nothing (λ e. omega arith)

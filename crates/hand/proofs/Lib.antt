@@ -5,3 +5,6 @@ mod Packing
 mod Entries
 mod Goals
 mod Low
+mod Known
+-- The tiles that are left.
+pub mod Live

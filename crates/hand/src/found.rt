@@ -1,61 +1,48 @@
 // What is found for a hand without a fault (01 "Merge", "What a target is").
-ghost use Rattle.std.specs.Prelude.{◌≡◌, length, get_or};
-ghost use Rattle.tile.specs.Board.{ranks};
+ghost use Rattle.std.specs.Prelude.{◌≡◌, length};
 ghost use Rattle.tile.specs.Target.{Target};
 ghost use Rattle.tile.specs.Answer.{Answer};
 ghost use Rattle.tile.specs.Refusal.{Faultless, SuitFault};
-ghost use Rattle.tile.specs.Suit.{board_of};
-ghost use Rattle.tile.specs.Suits.{suits_of, whole_of};
+ghost use Rattle.tile.specs.Goals.{AllRight};
+ghost use Rattle.tile.specs.Suits.{whole_of};
 ghost use Rattle.tile.specs.Hand.{HandRight};
 
 use crate::tally::{kinds, live};
-use crate::way::{Way, goals_by};
+use crate::way::Way;
 use crate::whole::whole;
 use merge::Merged;
+use tile::games::Game;
 use tile::one_hand::HandFound;
-use tile::one_suit::Suit;
-use tile::suits::{SuitM, SuitP, SuitS, SuitZ};
+use tile::one_suit::Goals;
+use tile::suit_tiles::{Honours, Ranks, SuitTiles};
+use tile::suits::{SuitM, SuitP, SuitS, SuitType, SuitZ};
 
-// The three-player game has 1m and 9m alone.
-fn suit_m(three_player: bool) -> Suit
-    ensures { board_of result ≡ get_or (suits_of three_player) 0 ranks }
+// The ten goals of a part. Where the part has no fault they are there.
+fn part_goals<S: SuitTiles, W: Way>(part: &[u8]) -> Goals
+    requires { Faultless (SuitFault S.board 0 0 part.now) }
+    ensures { AllRight S.board part.now result }
 {
-    if three_player {
-        return Suit::Ends;
-    }
-    Suit::Ranks
+    W::goals::<S>(part).unwrap()
 }
 
 // Number and sets. Each suit is answered in its part of the lent counts.
-fn merged_for(way: Way, counts: &[u8], k: u8, three_player: bool) -> Merged
-    requires { (length counts.now ≡ 34) × Faultless (SuitFault (whole_of three_player) 1 k counts.now) }
-    ensures { Answer 34 (Target (whole_of three_player) 1 k) counts.now result.number result.necessary result.unnecessary }
+fn merged_for<G: Game, W: Way>(counts: &[u8], k: u8) -> Merged
+    requires { (length counts.now ≡ 34) × Faultless (SuitFault (whole_of G.IS_THREE_PLAYER) 1 k counts.now) }
+    ensures { Answer 34 (Target (whole_of G.IS_THREE_PLAYER) 1 k) counts.now result.number result.necessary result.unnecessary }
 {
-    let m = goals_by(
-        way,
-        suit_m(three_player),
-        &counts[SuitM::OFFSET..SuitP::OFFSET],
-    );
-    let p = goals_by(way, Suit::Ranks, &counts[SuitP::OFFSET..SuitS::OFFSET]);
-    let s = goals_by(way, Suit::Ranks, &counts[SuitS::OFFSET..SuitZ::OFFSET]);
-    let z = goals_by(
-        way,
-        Suit::Honours,
-        &counts[SuitZ::OFFSET..SuitZ::OFFSET + SuitZ::LENGTH],
-    );
-    let in_m = m.goals;
-    let in_p = p.goals;
-    let in_s = s.goals;
-    let in_z = z.goals;
-    whole(in_m, in_p, in_s, in_z, k as usize)
+    let m = part_goals::<G::M, W>(&counts[SuitM::OFFSET..SuitP::OFFSET]);
+    let p = part_goals::<Ranks, W>(&counts[SuitP::OFFSET..SuitS::OFFSET]);
+    let s = part_goals::<Ranks, W>(&counts[SuitS::OFFSET..SuitZ::OFFSET]);
+    let z = part_goals::<Honours, W>(&counts[SuitZ::OFFSET..SuitZ::OFFSET + SuitZ::LENGTH]);
+    whole(m, p, s, z, k as usize)
 }
 
 // All five values.
-pub(crate) fn found_for(way: Way, counts: &[u8], k: u8, three_player: bool) -> HandFound
-    requires { Faultless (SuitFault (whole_of three_player) 1 k counts.now) }
-    ensures { HandRight (whole_of three_player) k counts.now result }
+pub(crate) fn found_for<G: Game, W: Way>(counts: &[u8], k: u8) -> HandFound
+    requires { Faultless (SuitFault (whole_of G.IS_THREE_PLAYER) 1 k counts.now) }
+    ensures { HandRight (whole_of G.IS_THREE_PLAYER) k counts.now result }
 {
-    let merged = merged_for(way, counts, k, three_player);
+    let merged = merged_for::<G, W>(counts, k);
     HandFound {
         number: merged.number,
         necessary: merged.necessary,

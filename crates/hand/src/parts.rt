@@ -3,7 +3,6 @@
 ghost use Rattle.hand.specs.Entry.{MergedTo, AllLight};
 
 use crate::packed::Packed;
-use crate::words::{beside, better, better_share};
 
 // For each number of melds: the best of giving none, some or all of them to the first part and the rest to the second, without a pair (`bare`),
 // with it in the second part and with it in the first. Both loops stand in one function and end at known numbers: so the compiler rolls them out
@@ -13,22 +12,19 @@ pub(crate) fn merge(a: [Packed; 10], c: [Packed; 10]) -> [Packed; 10]
     ensures { MergedTo 5 a c result }
 {
     let mut entry = a;
-    let mut melds: usize = 0;
-    'melds: while melds < 5 {
-        let mut bare = beside(a[0], c[melds]);
-        let mut second = beside(a[0], c[5 + melds]);
-        let mut first = beside(a[5], c[melds]);
-        let mut given: usize = 0;
-        while given < melds {
-            given += 1;
+    'melds: for melds in 0..5 {
+        let mut bare = a[0].beside(c[melds]);
+        let mut second = a[0].beside(c[5 + melds]);
+        let mut first = a[5].beside(c[melds]);
+        for fewer in 0..melds {
+            let given = fewer + 1;
             let rest = melds - given;
-            bare = better_share(bare, a[given], c[rest]);
-            second = better_share(second, a[given], c[5 + rest]);
-            first = better_share(first, a[5 + given], c[rest]);
+            bare = bare.better_share(a[given], c[rest]);
+            second = second.better_share(a[given], c[5 + rest]);
+            first = first.better_share(a[5 + given], c[rest]);
         }
         entry[melds] = bare;
-        entry[5 + melds] = better(second, first);
-        melds += 1;
+        entry[5 + melds] = second.better(first);
     }
     entry
 }

@@ -7,23 +7,17 @@ use crate::entry_of::entry_of;
 use crate::parts::merge;
 use crate::words::NUMBER;
 use merge::Merged;
-use tile::found::Found;
+use tile::one_suit::Goals;
 use tile::suits::{SuitM, SuitP, SuitS, SuitZ};
 
 // In the order m, p, s, z. Of the last merge one goal is asked for: a pair and k melds.
-pub(crate) fn whole(
-    m: [Found; 10],
-    p: [Found; 10],
-    s: [Found; 10],
-    z: [Found; 10],
-    k: usize,
-) -> Merged
+pub(crate) fn whole(m: Goals, p: Goals, s: Goals, z: Goals, k: usize) -> Merged
     requires { (k ≤ 4) × AllLow m p s z }
     ensures { result ≡ hand_merged m p s z k }
 {
-    let mp = merge(entry_of(m, SuitM::OFFSET), entry_of(p, SuitP::OFFSET));
-    let mps = merge(mp, entry_of(s, SuitS::OFFSET));
-    let mpsz = merge(mps, entry_of(z, SuitZ::OFFSET));
+    let mp = merge(entry_of::<SuitM>(m), entry_of::<SuitP>(p));
+    let mps = merge(mp, entry_of::<SuitS>(s));
+    let mpsz = merge(mps, entry_of::<SuitZ>(z));
     let hand = mpsz[5 + k];
     Merged {
         number: (hand.necessary / NUMBER) as u8,

@@ -1,12 +1,13 @@
 -- The sixteen bytes of an answer: 0, or the number of a refusal; the index of a refusal; the number, the kinds, the live tiles; zero;
 -- the necessary and the unnecessary set, five bytes each, lowest byte first.
 -- Assumes nothing.
-use Rattle.std.specs.Prelude.{List, ◌∷◌, ◌++◌, ℕ, ◌%◌}
+use Rattle.std.specs.Prelude.{List, ◌∷◌, ◌++◌, ℕ, ◌%◌, Result}
 use Rattle.tile.specs.Hand.{hand_values}
-use Rattle.tile.specs.declared.one_hand.HandAnswer.{HandAnswer}
+use Rattle.tile.specs.declared.one_hand.HandFound.{HandFound}
+use Rattle.tile.specs.declared.refusal.Reason.{Reason}
 use Rattle.records.specs.Record.{set_bytes}
 
-abbrev pub record_of : HandAnswer → List ℕ
+abbrev pub record_of : Result HandFound Reason → List ℕ
 record_of a =
     let v = hand_values a in
     let r = v.found in

@@ -2,9 +2,9 @@
 ghost use Rattle.std.specs.Prelude.{◌≡◌};
 ghost use Rattle.hand_replay.specs.Question.{end_of};
 
-// Where the counts end, which is inside the question whatever it says.
+// Where the counts end, which is inside the question whatever it says. (`suit_replay` has the same with its own two numbers: one line each.)
 pub(crate) fn end_of(long: u8) -> usize
     ensures { result ≡ end_of long }
 {
-    if long < 36 { 1 + long as usize } else { 37 }
+    1 + usize::from(long.min(36))
 }

@@ -2,11 +2,6 @@
 -- Assumes nothing.
 use Rattle.std.specs.Prelude.{◌≡◌, List, ℕ, ◌/◌, ◌%◌, ◌^◌, ◌<◌, length, get_or}
 use Rattle.tile.specs.Board.{Board}
-use Rattle.tile.specs.declared.found.Found.{Found}
-use Rattle.tile.specs.declared.refusal.Checked.{Checked}
-use Rattle.tile.specs.declared.refusal.Checked.TheVariants.{Fine, Faulty}
-use Rattle.tile.specs.declared.one_suit.SuitAnswer.{SuitAnswer}
-use Rattle.tile.specs.declared.one_suit.SuitAnswer.TheVariants.{Answered, Refused}
 use Rattle.lastavon.specs.Word.{WordFor}
 use Rattle.lastavon.specs.Room.{Room}
 
@@ -19,8 +14,3 @@ pub record GoalWords (b : Board) (h : List ℕ) (c : ℕ) (w : List ℕ) : Type 
 -- c is returned, and the words y stand where x stood: the ten goals' words and their code; or, where x is not ten words, 8 and x as it was
 abbrev pub GoalsWritten : Board → List ℕ → List ℕ → ℕ → List ℕ → Type 0
 GoalsWritten b h x c y = Room 10 (GoalWords b h) x c y
-
--- the answer for one goal of a suit: what was found, or the suit's refusal
-abbrev pub goal_answer : Checked → Found → SuitAnswer
-goal_answer Fine r = Answered r
-goal_answer (Faulty q) r = Refused q

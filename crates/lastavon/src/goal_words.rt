@@ -1,53 +1,35 @@
 // The ten goals of a suit as ten words (01 "Refusal numbers").
-ghost use Rattle.std.specs.Prelude.{◌≡◌};
-ghost use Rattle.tile.specs.Suit.{values_of, blank, board_of};
-ghost use Rattle.lastavon.specs.Goals.{goal_answer, GoalsWritten};
+ghost use Rattle.lastavon.specs.Goals.{GoalsWritten};
 
 use crate::suit_word::word;
-use fast::entry::goals;
+use fast::entry::Table;
 use records::bytes::NO_ROOM;
-use tile::found::Found;
-use tile::one_suit::{Suit, SuitAnswer};
-use tile::refusal::{Checked, code};
+use tile::suit_tiles::SuitTiles;
+use tile::way::Way;
 
 // How many goals there are.
 const GOALS: usize = 10;
 
-// A refused suit is refused for each goal.
-fn goal_answer(checked: Checked, found: Found) -> SuitAnswer
-    ensures { result ≡ goal_answer checked found }
-{
-    match checked {
-        Checked::Fine => SuitAnswer::Answered(found),
-        Checked::Faulty(reason) => SuitAnswer::Refused(reason),
-    }
-}
-
-// 0, or the number of the refusal: it stands in each of the words too.
-fn code_of(checked: Checked) -> u8
-    ensures { result ≡ (values_of (goal_answer checked blank)).code }
-{
-    match checked {
-        Checked::Fine => 0,
-        Checked::Faulty(reason) => code(reason),
-    }
-}
-
-// Writes the words of a suit's ten goals and returns their code. A place for more or fewer words is refused with 8 and
-// left as it is.
-pub(crate) fn tell_goals(suit: Suit, counts: &[u8], words: &mut [u64]) -> u8
-    ensures { GoalsWritten (board_of suit) counts.now words.old result words.new }
+// Writes the words of a suit's ten goals and returns their code: a refused suit is refused for each goal, and the
+// refusal's number stands in each of the words too. A place for more or fewer words is refused with 8 and left as it is.
+// (A number and no `Result`: it is what C gets back.)
+pub(crate) fn tell_goals<S: SuitTiles>(counts: &[u8], words: &mut [u64]) -> u8
+    ensures { GoalsWritten S.board counts.now words.old result words.new }
 {
     if words.len() != GOALS {
         return NO_ROOM;
     }
-    let found = goals(suit, counts);
-    let checked = found.checked;
-    let answers = found.goals;
-    let mut goal: usize = 0;
-    while goal < GOALS {
-        words[goal] = word(goal_answer(checked, answers[goal]));
-        goal += 1;
+    match Table::goals::<S>(counts) {
+        Ok(goals) => {
+            // by index and not by `zip`, since the promise says which word is whose
+            for goal in 0..GOALS {
+                words[goal] = word(Ok(goals[goal]));
+            }
+            0
+        }
+        Err(reason) => {
+            words.fill(word(Err(reason)));
+            reason.code()
+        }
     }
-    code_of(checked)
 }

@@ -3,43 +3,43 @@ ghost use Rattle.std.specs.Prelude.{◌≡◌};
 ghost use Rattle.lastavon.specs.Words.{words_of, HandTold};
 
 use records::bytes::NO_ROOM;
-use tile::one_hand::{HandAnswer, code_of};
-use tile::refusal::index;
+use tile::one_hand::{HandFound, code_of};
+use tile::refusal::Reason;
 
 // How many words an answer has.
 const WORDS: usize = 3;
 
-// Where the parts of the first word begin: powers of two in place of shifts, which a proof would have to take apart.
-const KINDS: u64 = 256;
+// At which bit the parts of the first word begin.
+const KINDS: u32 = 8;
 
-const LIVE: u64 = 65536;
+const LIVE: u32 = 16;
 
-const INDEX: u64 = 16777216;
+const INDEX: u32 = 24;
 
-fn words_of(answer: HandAnswer) -> [u64; 3]
+// (No `From`: a `Result` and an array are std's.)
+fn words_of(answer: Result<HandFound, Reason>) -> [u64; WORDS]
     ensures { result ≡ words_of answer }
 {
     match answer {
-        HandAnswer::Answered(found) => [
-            found.number as u64 + found.kinds as u64 * KINDS + found.live as u64 * LIVE,
+        Ok(found) => [
+            u64::from(found.number)
+                + (u64::from(found.kinds) << KINDS)
+                + (u64::from(found.live) << LIVE),
             found.necessary,
             found.unnecessary,
         ],
-        HandAnswer::Refused(reason) => [(index(reason) % 256) as u64 * INDEX, 0, 0],
+        Err(reason) => [(reason.index() as u64 % 256) << INDEX, 0, 0],
     }
 }
 
-// Writes the words of an answer and returns its code. A place for more or fewer words is refused with 8 and left as
+// Writes the words of an answer and returns its code, which is what C gets back. A place for more or fewer words is refused with 8 and left as
 // it is (01 "Refusal numbers").
-pub(crate) fn tell_hand(answer: HandAnswer, words: &mut [u64]) -> u8
+pub(crate) fn tell_hand(answer: Result<HandFound, Reason>, words: &mut [u64]) -> u8
     ensures { HandTold answer words.old result words.new }
 {
     if words.len() != WORDS {
         return NO_ROOM;
     }
-    let values = words_of(answer);
-    words[0] = values[0];
-    words[1] = values[1];
-    words[2] = values[2];
+    words.copy_from_slice(&words_of(answer));
     code_of(answer)
 }

@@ -4,15 +4,15 @@ ghost use Rattle.tile.specs.Board.{ranks, honours, ends};
 ghost use Rattle.lastavon.specs.Word.{WordFor};
 
 use crate::suit_word::word;
-use suit::entry::answer;
-use tile::one_suit::Suit;
+use suit::entry::answer_for;
+use tile::suit_tiles::{Ends, Honours, Ranks};
 
 // Nine ranks.
 #[unsafe(no_mangle)]
 pub extern "C" fn lastavon_ranks(counts: &[u8], pairs: u8, melds: u8) -> u64
     ensures { WordFor ranks pairs melds counts.now result }
 {
-    word(answer(Suit::Ranks, counts, pairs, melds))
+    word(answer_for::<Ranks>(counts, pairs, melds))
 }
 
 // Seven honours.
@@ -20,7 +20,7 @@ pub extern "C" fn lastavon_ranks(counts: &[u8], pairs: u8, melds: u8) -> u64
 pub extern "C" fn lastavon_honours(counts: &[u8], pairs: u8, melds: u8) -> u64
     ensures { WordFor honours pairs melds counts.now result }
 {
-    word(answer(Suit::Honours, counts, pairs, melds))
+    word(answer_for::<Honours>(counts, pairs, melds))
 }
 
 // 1m/9m: nine ranks, of which the first and the last may be held.
@@ -28,5 +28,5 @@ pub extern "C" fn lastavon_honours(counts: &[u8], pairs: u8, melds: u8) -> u64
 pub extern "C" fn lastavon_ends(counts: &[u8], pairs: u8, melds: u8) -> u64
     ensures { WordFor ends pairs melds counts.now result }
 {
-    word(answer(Suit::Ends, counts, pairs, melds))
+    word(answer_for::<Ends>(counts, pairs, melds))
 }

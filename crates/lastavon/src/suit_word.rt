@@ -2,29 +2,30 @@
 ghost use Rattle.std.specs.Prelude.{◌≡◌};
 ghost use Rattle.lastavon.specs.Word.{word_of};
 
-use tile::one_suit::SuitAnswer;
-use tile::refusal::{code, index};
+use tile::found::Found;
+use tile::refusal::Reason;
 
-// Where each part begins: a power of two in place of a shift, which a proof would have to take apart.
-const NECESSARY: u64 = 256;
+// At which bit each part begins.
+const NECESSARY: u32 = 8;
 
-const UNNECESSARY: u64 = 16777216;
+const UNNECESSARY: u32 = 24;
 
-const INDEX: u64 = 1099511627776;
+const INDEX: u32 = 40;
 
-const CODE: u64 = 281474976710656;
+const CODE: u32 = 48;
 
-pub(crate) fn word(answer: SuitAnswer) -> u64
+// (No `From`: a `Result` and `u64` are std's.)
+pub(crate) fn word(answer: Result<Found, Reason>) -> u64
     ensures { result ≡ word_of answer }
 {
     match answer {
-        SuitAnswer::Answered(found) => {
-            found.number as u64
-                + found.necessary as u64 * NECESSARY
-                + found.unnecessary as u64 * UNNECESSARY
+        Ok(found) => {
+            u64::from(found.number)
+                + (u64::from(found.necessary) << NECESSARY)
+                + (u64::from(found.unnecessary) << UNNECESSARY)
         }
-        SuitAnswer::Refused(reason) => {
-            (index(reason) % 256) as u64 * INDEX + code(reason) as u64 * CODE
+        Err(reason) => {
+            ((reason.index() as u64 % 256) << INDEX) + (u64::from(reason.code()) << CODE)
         }
     }
 }

@@ -5,14 +5,14 @@ ghost use Rattle.tile.specs.Board.{ranks, honours, ends};
 ghost use Rattle.lastavon.specs.Goals.{GoalsWritten};
 
 use crate::goal_words::tell_goals;
-use tile::one_suit::Suit;
+use tile::suit_tiles::{Ends, Honours, Ranks};
 
 // Nine ranks.
 #[unsafe(no_mangle)]
 pub extern "C" fn lastavon_ranks_goals(counts: &[u8], words: &mut [u64]) -> u8
     ensures { GoalsWritten ranks counts.now words.old result words.new }
 {
-    tell_goals(Suit::Ranks, counts, words)
+    tell_goals::<Ranks>(counts, words)
 }
 
 // Seven honours.
@@ -20,7 +20,7 @@ pub extern "C" fn lastavon_ranks_goals(counts: &[u8], words: &mut [u64]) -> u8
 pub extern "C" fn lastavon_honours_goals(counts: &[u8], words: &mut [u64]) -> u8
     ensures { GoalsWritten honours counts.now words.old result words.new }
 {
-    tell_goals(Suit::Honours, counts, words)
+    tell_goals::<Honours>(counts, words)
 }
 
 // 1m/9m: nine ranks, of which the first and the last may be held.
@@ -28,5 +28,5 @@ pub extern "C" fn lastavon_honours_goals(counts: &[u8], words: &mut [u64]) -> u8
 pub extern "C" fn lastavon_ends_goals(counts: &[u8], words: &mut [u64]) -> u8
     ensures { GoalsWritten ends counts.now words.old result words.new }
 {
-    tell_goals(Suit::Ends, counts, words)
+    tell_goals::<Ends>(counts, words)
 }

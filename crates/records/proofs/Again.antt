@@ -6,8 +6,9 @@ use Prim.Native.Nat.{ℕ, ◌+◌, ◌*◌, ◌/◌, ◌%◌, ◌^◌, ◌<◌}
 use native.Mathlib.Omega.{arith}
 use lib.ListN.{length, get_or}
 use Rattle.tile.specs.Hand.{hand_values, HandPromised}
-use Rattle.tile.specs.declared.one_hand.HandAnswer.{HandAnswer}
-use Rattle.tile.specs.declared.one_hand.HandAnswer.TheVariants.{Answered, Refused}
+use Rattle.std.specs.Prelude.{Result, Ok, Err}
+use Rattle.tile.specs.declared.refusal.Reason.{Reason}
+use Rattle.tile.specs.declared.one_hand.HandFound.{HandFound}
 use Rattle.tile.proofs.Hand.{hand_small}
 use Rattle.records.specs.Record.{set_bytes, record_of}
 
@@ -26,7 +27,7 @@ bytes_again s small =
     omega (arith, a, b, c, d, e)
 
 -- the parts of the record of a
-pub record Parts (a : HandAnswer) : Type 0 where
+pub record Parts (a : Result HandFound Reason) : Type 0 where
   pub long : length (record_of a) ≡ 16
   pub code : get_or (record_of a) 0 0 ≡ (hand_values a).code
   pub number : get_or (record_of a) 1 0 ≡ (hand_values a).found.number
@@ -36,9 +37,9 @@ pub record Parts (a : HandAnswer) : Type 0 where
   pub live : get_or (record_of a) 13 0 ≡ (hand_values a).found.live
 
 -- for any answer that is promised
-pub record_parts : (game k : ℕ) (h : List ℕ) (a : HandAnswer) → HandPromised game k h a → Parts a
-record_parts game k h (Refused q) p =
+pub record_parts : (game k : ℕ) (h : List ℕ) (a : Result HandFound Reason) → HandPromised game k h a → Parts a
+record_parts game k h (Err q) p =
     record { long = refl; code = refl; number = refl; necessary = refl; unnecessary = refl; kinds = refl; live = refl }
-record_parts game k h (Answered r) p =
+record_parts game k h (Ok r) p =
     let small = hand_small game k h r p in
     record { long = refl; code = refl; number = refl; necessary = bytes_again r.necessary small.necessary; unnecessary = bytes_again r.unnecessary small.unnecessary; kinds = refl; live = refl }

@@ -1,9 +1,10 @@
 -- Records (01 "Records"). A hand record h is 36 bytes: 34 counts, k, the game. An answer record is 16 bytes: the code, 0 for an answer; the number;
 -- the necessary set, five bytes, lowest first; the unnecessary set, five bytes; the kinds; the live tiles; two zero bytes.
 -- Assumes nothing.
-use Rattle.std.specs.Prelude.{◌≡◌, List, [], ◌∷◌, ◌++◌, ℕ, ◌/◌, ◌%◌, ◌^◌, length, get_or, take}
+use Rattle.std.specs.Prelude.{◌≡◌, List, [], ◌∷◌, ◌++◌, ℕ, ◌/◌, ◌%◌, ◌^◌, length, get_or, take, Result}
 use Rattle.tile.specs.Hand.{hand_values, HandPromised}
-use Rattle.tile.specs.declared.one_hand.HandAnswer.{HandAnswer}
+use Rattle.tile.specs.declared.refusal.Reason.{Reason}
+use Rattle.tile.specs.declared.one_hand.HandFound.{HandFound}
 
 abbrev pub hand_bytes : ℕ
 hand_bytes = 36
@@ -16,7 +17,7 @@ abbrev pub set_bytes : ℕ → List ℕ
 set_bytes s = s % 2 ^ 8 ∷ s / 2 ^ 8 % 2 ^ 8 ∷ s / 2 ^ 16 % 2 ^ 8 ∷ s / 2 ^ 24 % 2 ^ 8 ∷ s / 2 ^ 32 % 2 ^ 8 ∷ []
 
 -- the record of an answer; of a refusal it is the code and fifteen zeros, since the values are zeros there (`hand_values`)
-abbrev pub record_of : HandAnswer → List ℕ
+abbrev pub record_of : Result HandFound Reason → List ℕ
 record_of a =
     let v = hand_values a in
     let r = v.found in
@@ -28,7 +29,7 @@ code_record c = c ∷ 0 ∷ 0 ∷ 0 ∷ 0 ∷ 0 ∷ 0 ∷ 0 ∷ 0 ∷ 0 ∷ 0 �
 
 -- y is the answer record of h: the record of what is promised for its hand; or, where h is not 36 bytes, code 7
 pub data Answers (h y : List ℕ) : Type 0 where
-  whole : length h ≡ hand_bytes → (a : HandAnswer) → HandPromised (get_or h 35 0) (get_or h 34 0) (take 34 h) a → y ≡ record_of a → Answers h y
+  whole : length h ≡ hand_bytes → (a : Result HandFound Reason) → HandPromised (get_or h 35 0) (get_or h 34 0) (take 34 h) a → y ≡ record_of a → Answers h y
   broken : (length h ≡ hand_bytes → ⊥) → y ≡ code_record 7 → Answers h y
 
 -- y stands where x stood after the record b was put there: b; or, where x is not 16 bytes, x as it was

@@ -4,9 +4,10 @@ ghost use Rattle.records.specs.Record.{Recorded};
 use crate::bytes::{ANSWER, BROKEN, COUNTS, HAND, NO_ROOM, answered, coded};
 use crate::put::put;
 use hand::entry::fast_answer;
-use tile::one_hand::{HandAnswer, code_of};
+use tile::one_hand::code_of;
 
-// Answers a hand record into the room for an answer record, and returns its code. A room that is not 16 bytes is left as it is.
+// A number and no `Result`: 01 fixes that the record entry returns its code.
+/// Answers a hand record into the room for an answer record, and returns its code. A room that is not 16 bytes is left as it is.
 pub fn answer_record(hand: &[u8], out: &mut [u8]) -> u8
     ensures { Recorded hand.now out.old result out.new }
 {
@@ -18,7 +19,8 @@ pub fn answer_record(hand: &[u8], out: &mut [u8]) -> u8
         return BROKEN;
     }
     let found = fast_answer(&hand[0..COUNTS], hand[COUNTS], hand[COUNTS + 1]);
-    let HandAnswer::Answered(values) = found else {
+    // opened by `let .. else`, as 01 asks here and of the program
+    let Ok(values) = found else {
         let code = code_of(found);
         put(out, coded(code));
         return code;

@@ -7,7 +7,7 @@ use lib.Dec.{T}
 use Rattle.tile.specs.Count.{bit, sum_to}
 use Rattle.tile.specs.Tally.{kinds_to, live_to}
 use Rattle.tile.specs.Hand.{HandPromised}
-use Rattle.tile.specs.declared.one_hand.HandAnswer.TheVariants.{Answered}
+use Rattle.std.specs.Prelude.{Ok}
 use Rattle.tile.proofs.Tests.{all_to, all_to_lem}
 use Rattle.walk.specs.Walk.{up_to}
 use Rattle.table.specs.Cell.{meet, onto, chosen, cell, result}
@@ -27,5 +27,5 @@ passes = all_to_lem (length rows) (λ i. right (row_at i)) all_right
 pub rows_long : (i : ℕ) → i < length rows → length (row_at i).counts ≡ 34
 rows_long i l = long (row_at i) (passes i l)
 
-pub rows_promised : (i : ℕ) → i < length rows → HandPromised (row_at i).game (row_at i).melds (row_at i).counts (Answered (row_at i).answer)
+pub rows_promised : (i : ℕ) → i < length rows → HandPromised (row_at i).game (row_at i).melds (row_at i).counts (Ok (row_at i).answer)
 rows_promised i l = row_promised (row_at i) (passes i l)

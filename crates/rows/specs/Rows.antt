@@ -1,9 +1,8 @@
 -- The rows marked P of the table of 01 "Hands to hold it against": ten hands, and the five values of each answer in full.
 -- Assumes nothing.
-use Rattle.std.specs.Prelude.{List, [], ◌∷◌, ◌++◌, ℕ, ◌+◌, ◌*◌, ◌^◌, get_or, replicate}
+use Rattle.std.specs.Prelude.{List, [], ◌∷◌, ◌++◌, ℕ, ◌+◌, ◌*◌, ◌^◌, get_or, replicate, Ok}
 use Rattle.tile.specs.Hand.{no_hand}
 use Rattle.tile.specs.declared.one_hand.HandFound.{HandFound}
-use Rattle.tile.specs.declared.one_hand.HandAnswer.TheVariants.{Answered}
 use Rattle.records.specs.Record.{record_of}
 
 pub record Row : Type 0 where
@@ -85,7 +84,7 @@ abbrev pub hand_record : Row → List ℕ
 hand_record r = r.counts ++ (r.melds ∷ r.game ∷ [])
 
 abbrev pub answer_record : Row → List ℕ
-answer_record r = record_of (Answered r.answer)
+answer_record r = record_of (Ok r.answer)
 
 -- the four answers that 01 writes out byte by byte
 abbrev pub written_out : List (List ℕ)

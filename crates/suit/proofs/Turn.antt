@@ -10,7 +10,6 @@ use lib.ListN.{length, get_or, set}
 use borrow.Author.Tests.{le-ltb, lt-ltb, le-leb, lt-leb}
 use Rattle.tile.specs.Count.{copies, more, sum_to, lack_to}
 use Rattle.tile.specs.Board.{Board}
-use Rattle.tile.specs.Suit.{board_of}
 use Rattle.tile.specs.declared.found.Found.{Found}
 use Rattle.tile.proofs.Tests.{at_most_or_over}
 use Rattle.tile.proofs.Counts.{lack_few, lack_further, lack_end, more_off}
@@ -27,12 +26,11 @@ use Rattle.walk.proofs.Steps.{over_melds, over_pairs, over_tiles, cut, entered}
 use Rattle.walk.proofs.Skips.{walk_skip, walk_past, walk_done}
 use Rattle.suit.specs.Choice.{choice_of}
 use Rattle.suit.specs.Aim.{view_of, Small, whole_lack, worthy, counts_by, advanced_by}
-use Rattle.suit.specs.Task.{room_for}
+use Rattle.suit.specs.Task.{Task, room_for}
 use Rattle.suit.specs.Ready.{Ready}
-use Rattle.suit.specs.declared.task.Task.{Task}
 use Rattle.suit.specs.declared.aim.Aim.{Aim}
 use Rattle.suit.specs.declared.aim.View.{View}
-use Rattle.suit.proofs.Stepped.{Stepped, stepped, tiles_held}
+use Rattle.suit.proofs.Stepped.{Stepped, stepped}
 
 -- what is laid is taken from what is to be laid
 on_account : (span sum sum' m m' p p' l x : ℕ) → span ≤ sum + (3 * m + 2 * p) + l → sum' ≡ sum + (3 * m' + 2 * p') → m' ≤ m → p' ≤ p
@@ -42,12 +40,12 @@ on_account span sum sum' m m' p p' l x s e f g = omega arith
 -- one choice at rank i, as the walk tries it
 abbrev pub turn_at : List ℕ → Task → ℕ → Aim → ℕ → Found → Found
 turn_at h k i a =
-    let b = board_of k.suit in
+    let b = k.board in
     tried b.kinds h (walk b h (b.kinds - (i + 1)) (i + 1)) i a.pairs a.melds a.counts
 
 module _ (h : List ℕ) (k : Task) (i : ℕ) (a : Aim) (ready : Ready h k i a) where
   abbrev b : Board
-  b = board_of k.suit
+  b = k.board
 
   abbrev t : List ℕ
   t = a.counts
@@ -63,10 +61,10 @@ module _ (h : List ℕ) (k : Task) (i : ℕ) (a : Aim) (ready : Ready h k i a) w
   turn = turn_at h k i a
 
   pub steps : Stepped k i
-  steps = stepped k (sum_to (length h) h) i ready.task ready.held
+  steps = stepped k i ready.task ready.held
 
   hand_sum : k.held ≡ sum_to b.kinds h
-  hand_sum = tiles_held k (sum_to (length h) h) ready.task ∙ ap (λ (n : ℕ). sum_to n h) ready.long
+  hand_sum = ready.held_all ∙ ap (λ (n : ℕ). sum_to n h) ready.long
 
   pub inside : i < b.kinds
   inside = may_inside b i ready.held
@@ -203,28 +201,28 @@ module _ (h : List ℕ) (k : Task) (i : ℕ) (a : Aim) (ready : Ready h k i a) w
         left = (a.pairs - pairs_of c) + (a.melds - melds_of c)
 
         -- too little room for it
-        crowded : 0 < left → k.runs ≤ i + k.step → k.kinds < i + k.step + left → turn c r ≡ r
+        crowded : 0 < left → k.runs ≤ i + k.step → b.kinds < i + k.step + left → turn c r ≡ r
         crowded some flat full =
             goes ∙ walk_skip b h _ (i + 1) _ _ u r
-            (λ w leaf. omega (arith, leaf_room b _ (i + 1) _ _ u w (steps.flat flat) leaf, steps.room, steps.kinds))
+            (λ w leaf. omega (arith, leaf_room b _ (i + 1) _ _ u w (steps.flat flat) leaf, steps.room))
 
-        pub no_room : 0 < left → room_for k (i + k.step) left ≡ false → turn c r ≡ r
+        pub no_room : 0 < left → room_for k.runs b.kinds (i + k.step) left ≡ false → turn c r ≡ r
         no_room some e =
             ⊎_elim
             (λ (flat : k.runs ≤ i + k.step).
-            ⊎_elim (λ (room : i + k.step + left ≤ k.kinds). absurd (true≢false (sym (simp (le-ltb, le-leb)) ∙ e))) (λ (full : k.kinds < i + k.step + left). crowded some flat full)
-            (at_most_or_over (i + k.step + left) k.kinds))
+            ⊎_elim (λ (room : i + k.step + left ≤ b.kinds). absurd (true≢false (sym (simp (le-ltb, le-leb)) ∙ e))) (λ (full : b.kinds < i + k.step + left). crowded some flat full)
+            (at_most_or_over (i + k.step + left) b.kinds))
             (λ (runs : i + k.step < k.runs). absurd (true≢false (sym (simp lt-ltb) ∙ e)))
             (at_most_or_over k.runs (i + k.step))
 
-        pub room : 0 < left → room_for k (i + k.step) left ≡ true → i + k.step < b.kinds
+        pub room : 0 < left → room_for k.runs b.kinds (i + k.step) left ≡ true → i + k.step < b.kinds
         room some e =
             ⊎_elim
             (λ (flat : k.runs ≤ i + k.step).
-            ⊎_elim (λ (room : i + k.step + left ≤ k.kinds). omega (arith, steps.kinds))
-            (λ (full : k.kinds < i + k.step + left). absurd (true≢false (sym e ∙ simp (le-ltb, lt-leb))))
-            (at_most_or_over (i + k.step + left) k.kinds))
-            (λ (runs : i + k.step < k.runs). omega (arith, steps.kinds, steps.forward))
+            ⊎_elim (λ (room : i + k.step + left ≤ b.kinds). omega (arith))
+            (λ (full : b.kinds < i + k.step + left). absurd (true≢false (sym e ∙ simp (le-ltb, lt-leb))))
+            (at_most_or_over (i + k.step + left) b.kinds))
+            (λ (runs : i + k.step < k.runs). omega (arith, steps.forward))
             (at_most_or_over k.runs (i + k.step))
 
         -- or the next rank that may be held is searched
@@ -296,6 +294,7 @@ module _ (h : List ℕ) (k : Task) (i : ℕ) (a : Aim) (ready : Ready h k i a) w
               subst (λ (w : List ℕ). Ready h k (i + k.step) (aim_with w)) (sym counts_laid)
               (record {
                 task = ready.task;
+                held_all = ready.held_all;
                 long = ready.long;
                 few = ready.few;
                 held = steps.after l;
@@ -312,12 +311,12 @@ module _ (h : List ℕ) (k : Task) (i : ℕ) (a : Aim) (ready : Ready h k i a) w
         abbrev next : Aim
         next = advanced_by a i (choice_of c) v
 
-        pub joins : (k.kinds ≤ 9) × (length h ≡ k.kinds) × (whole_lack a (choice_of c) v ≡ lack_to k.kinds next.counts h)
+        pub joins : (b.kinds ≤ 9) × (length h ≡ b.kinds) × (whole_lack a (choice_of c) v ≡ lack_to b.kinds next.counts h)
         joins =
-            rw (steps.kinds, counts_laid) (steps.nine, ready.long, whole_there (omega (arith, ready.here, worth.fit.tiles)))
+            rw counts_laid (steps.nine, ready.long, whole_there (omega (arith, ready.here, worth.fit.tiles)))
 
-        pub ends : left ≡ 0 → turn c r ≡ join k.kinds h next.counts r
-        ends e = rw (steps.kinds, counts_laid) (whole_done e)
+        pub ends : left ≡ 0 → turn c r ≡ join b.kinds h next.counts r
+        ends e = rw counts_laid (whole_done e)
 
-        pub searches : i + k.step < b.kinds → turn c r ≡ walk b h (k.kinds - (i + k.step)) (i + k.step) next.pairs next.melds next.counts r
-        searches l = rw (steps.kinds, counts_laid) (searched_next l)
+        pub searches : i + k.step < b.kinds → turn c r ≡ walk b h (b.kinds - (i + k.step)) (i + k.step) next.pairs next.melds next.counts r
+        searches l = rw counts_laid (searched_next l)

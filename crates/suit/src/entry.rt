@@ -1,51 +1,57 @@
 // The entries for one suit (01 "One suit"). They take all counts and all goals, and do their own checking.
-ghost use Rattle.tile.specs.Suit.{board_of, Promised};
+ghost use Rattle.tile.specs.Suit.{Promised, board_of};
 ghost use Rattle.tile.specs.Goals.{GoalsPromised};
 
 use crate::search::found_for;
 use checks::check::check;
-use checks::tiles::Tiles;
 use tile::found::Found;
-use tile::one_suit::{Suit, SuitAnswer, SuitGoals};
-use tile::refusal::Checked;
+use tile::one_suit::{Goals, Suit, SuitGoals};
+use tile::refusal::Reason;
+use tile::suit_tiles::{Ends, Honours, Ranks, SuitTiles};
+use tile::way;
+use tile::way::Way;
 
 // The starting bound: no target of four melds and a pair lacks more.
 const BOUND: u8 = 14;
 
-// The answer for a goal of `pairs` pairs and `melds` melds.
-pub fn answer(suit: Suit, counts: &[u8], pairs: u8, melds: u8) -> SuitAnswer
+/// The answer for a goal of `pairs` pairs and `melds` melds, of a suit that is known when the program is built.
+pub fn answer_for<S: SuitTiles>(counts: &[u8], pairs: u8, melds: u8) -> Result<Found, Reason>
+    ensures { Promised S.board pairs melds counts.now result }
+{
+    check::<S>(counts, pairs, melds)?;
+    Ok(found_for::<S>(counts, pairs, melds, BOUND))
+}
+
+/// The same for any suit.
+pub fn answer(suit: Suit, counts: &[u8], pairs: u8, melds: u8) -> Result<Found, Reason>
     ensures { Promised (board_of suit) pairs melds counts.now result }
 {
-    let checked = check(Tiles::Part(suit), counts, pairs, melds);
-    match checked {
-        Checked::Faulty(reason) => SuitAnswer::Refused(reason),
-        Checked::Fine => SuitAnswer::Answered(found_for(suit, counts, pairs, melds, BOUND)),
+    match suit {
+        Suit::Ranks => answer_for::<Ranks>(counts, pairs, melds),
+        Suit::Honours => answer_for::<Honours>(counts, pairs, melds),
+        Suit::Ends => answer_for::<Ends>(counts, pairs, melds),
     }
 }
 
-// The answers for the ten goals: goal 5p + m is p pairs and m melds.
+/// By trying the suit's targets one after the other.
+#[derive(Clone, Copy, Debug, PartialEq, Eq)]
+pub struct Search;
+
+impl Way for Search {
+    fn goals<S: SuitTiles>(counts: &[u8]) -> Result<Goals, Reason> {
+        check::<S>(counts, 0, 0)?;
+        let mut goals = [Found::default(); 10];
+        // Tried by `array::from_fn`: the proof did not close. What it learns of an answer speaks of the closure, and not of these counts.
+        for goal in 0..10 {
+            goals[goal] = found_for::<S>(counts, (goal / 5) as u8, (goal % 5) as u8, BOUND);
+        }
+        Ok(goals)
+    }
+}
+
+/// The answers for the ten goals: goal 5p + m is p pairs and m melds.
 pub fn goals(suit: Suit, counts: &[u8]) -> SuitGoals
     ensures { GoalsPromised (board_of suit) counts.now result.checked result.goals }
 {
-    let mut goals = [Found {
-        number: 0,
-        necessary: 0,
-        unnecessary: 0,
-    }; 10];
-    let checked = check(Tiles::Part(suit), counts, 0, 0);
-    let Checked::Fine = checked else {
-        return SuitGoals {
-            checked: checked,
-            goals: goals,
-        };
-    };
-    let mut goal: usize = 0;
-    while goal < 10 {
-        goals[goal] = found_for(suit, counts, (goal / 5) as u8, (goal % 5) as u8, BOUND);
-        goal += 1;
-    }
-    SuitGoals {
-        checked: checked,
-        goals: goals,
-    }
+    way::goals::<Search>(suit, counts)
 }

@@ -1,19 +1,16 @@
 -- The records of the ten goals (01 "Packed words" has their order), one after the other.
 -- Assumes nothing.
-use Rattle.std.specs.Prelude.{◌≡◌, List, ℕ, ◌/◌, ◌%◌, ◌<◌, length, get_or}
+use Rattle.std.specs.Prelude.{◌≡◌, List, ℕ, ◌/◌, ◌%◌, ◌<◌, length, get_or, Result, Ok, Err}
 use Rattle.tile.specs.Suit.{blank}
 use Rattle.tile.specs.declared.found.Found.{Found}
-use Rattle.tile.specs.declared.refusal.Checked.{Checked}
-use Rattle.tile.specs.declared.refusal.Checked.TheVariants.{Fine, Faulty}
-use Rattle.tile.specs.declared.one_suit.SuitAnswer.{SuitAnswer}
-use Rattle.tile.specs.declared.one_suit.SuitAnswer.TheVariants.{Answered, Refused}
+use Rattle.tile.specs.declared.refusal.Reason.{Reason}
 use Rattle.tile.specs.declared.one_suit.SuitGoals.{SuitGoals}
 use Rattle.suit_replay.specs.Record.{record_of}
 
 -- what is answered for a goal of which r was found: where the suit is refused, that refusal
-abbrev pub goal_of : Checked → Found → SuitAnswer
-goal_of Fine r = Answered r
-goal_of (Faulty q) r = Refused q
+abbrev pub goal_of : Result (Unit {0}) Reason → Found → Result Found Reason
+goal_of (Ok done) r = Ok r
+goal_of (Err q) r = Err q
 
 abbrev pub goal_record : SuitGoals → ℕ → List ℕ
 goal_record s g = record_of (goal_of s.checked (get_or s.goals g blank))

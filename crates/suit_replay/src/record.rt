@@ -1,31 +1,22 @@
-// An answer as eight bytes.
+// An answer as eight bytes. (`words_replay` writes the two sets alike, behind one byte in place of four: they share two lines.)
 ghost use Rattle.std.specs.Prelude.{◌≡◌};
 ghost use Rattle.suit_replay.specs.Record.{record_of};
 
-use tile::one_suit::SuitAnswer;
-use tile::refusal::{code, index};
+use tile::found::Found;
+use tile::refusal::Reason;
 
-pub(crate) fn record_of(answer: SuitAnswer) -> [u8; 8]
+pub(crate) fn record_of(answer: Result<Found, Reason>) -> [u8; 8]
     ensures { result ≡ record_of answer }
 {
     match answer {
-        SuitAnswer::Answered(found) => {
-            let necessary = found.necessary;
-            let unnecessary = found.unnecessary;
-            [
-                0,
-                0,
-                found.number,
-                0,
-                (necessary % 256) as u8,
-                (necessary / 256) as u8,
-                (unnecessary % 256) as u8,
-                (unnecessary / 256) as u8,
-            ]
+        Ok(found) => {
+            let [low, high] = found.necessary.to_le_bytes();
+            let [spare_low, spare_high] = found.unnecessary.to_le_bytes();
+            [0, 0, found.number, 0, low, high, spare_low, spare_high]
         }
-        SuitAnswer::Refused(reason) => {
-            let code = code(reason);
-            let index = (index(reason) % 256) as u8;
+        Err(reason) => {
+            let code = reason.code();
+            let index = (reason.index() % 256) as u8;
             [code, index, 0, 0, 0, 0, 0, 0]
         }
     }

@@ -1,32 +1,31 @@
 // The records of the ten goals, one after the other.
-ghost use Rattle.std.specs.Prelude.{◌≡◌, ◌<◌};
+ghost use Rattle.std.specs.Prelude.{◌≡◌, ◌<◌, ◌/◌, ◌%◌, get_or};
 ghost use Rattle.suit_replay.specs.Ten.{goal_record, Ten};
 
 use crate::record::record_of;
-use tile::one_suit::{SuitAnswer, SuitGoals};
-use tile::refusal::Checked;
+use tile::one_suit::SuitGoals;
 
 fn goal_record(all: SuitGoals, goal: usize) -> [u8; 8]
     requires { goal < 10 }
     ensures { result ≡ goal_record all goal }
 {
-    let checked = all.checked;
-    let found = all.goals;
-    match checked {
-        Checked::Fine => record_of(SuitAnswer::Answered(found[goal])),
-        Checked::Faulty(reason) => record_of(SuitAnswer::Refused(reason)),
-    }
+    record_of(all.checked.map(|()| all.goals[goal]))
 }
 
+fn record_byte(all: SuitGoals, i: usize) -> u8
+    requires { i < 80 }
+    ensures { result ≡ get_or (goal_record all (i / 8)) (i % 8) 0 }
+{
+    goal_record(all, i / 8)[i % 8]
+}
+
+// A loop, since with `array::from_fn` the proof of eighty bytes did not close (`returns`).
 pub(crate) fn ten_records(all: SuitGoals) -> [u8; 80]
     ensures { Ten all result }
 {
-    let mut out = [0u8; 80];
-    let mut i: usize = 0;
-    while i < 80 {
-        let bytes = goal_record(all, i / 8);
-        out[i] = bytes[i % 8];
-        i += 1;
+    let mut out = [0; 80];
+    for i in 0..80 {
+        out[i] = record_byte(all, i);
     }
     out
 }

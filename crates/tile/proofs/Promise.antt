@@ -10,17 +10,14 @@ use native.Mathlib.Omega.{arith}
 use lib.ListN.{length, get_or}
 use lib.Seq.{ext_get_or}
 use lib.WfN.{lt-wf_rel}
+use Rattle.std.specs.Prelude.{Result, Ok, Err}
 use Rattle.tile.specs.Board.{Board}
-use Rattle.tile.specs.Refusal.{code_of, index_of, Lowest, First, Fault}
+use Rattle.tile.specs.Refusal.{code_of, index_of, Lowest, First, FirstFaultOr, Fault}
 use Rattle.tile.specs.Suit.{blank, Promised}
-use Rattle.tile.specs.Goals.{GoalsPromised, AllRight}
+use Rattle.tile.specs.Goals.{GoalsFor, GoalsPromised, AllRight}
 use Rattle.tile.specs.declared.found.Found.{Found}
 use Rattle.tile.specs.declared.refusal.Reason.{Reason}
 use Rattle.tile.specs.declared.refusal.Reason.TheVariants.{Game, Goal, Length, Over, Sum, Barred}
-use Rattle.tile.specs.declared.one_suit.SuitAnswer.{SuitAnswer}
-use Rattle.tile.specs.declared.one_suit.SuitAnswer.TheVariants.{Answered, Refused}
-use Rattle.tile.specs.declared.refusal.Checked.{Checked}
-use Rattle.tile.specs.declared.refusal.Checked.TheVariants.{Fine, Faulty}
 use Rattle.tile.proofs.Tests.{at_most_or_over, not_unequal}
 use Rattle.tile.proofs.Counts.{held_inside}
 use Rattle.tile.proofs.Suit.{right_once}
@@ -98,13 +95,17 @@ module _ (Fault : Reason → Type 0) (A B : ℕ → Type 0) (lowest_over : (i : 
 pub fault_once : (unknown : Type 0) (b : Board) (p m : ℕ) (h : List ℕ) (q r : Reason) → First (Fault unknown b p m h) q → First (Fault unknown b p m h) r → q ≡ r
 fault_once unknown b p m h = first_once (Fault unknown b p m h) _ _ (λ i x. x) (λ i x. x)
 
+-- so whatever is promised of a value leaves one result, if it leaves one value
+pub value_once : {A : Type 0} (unknown : Type 0) (b : Board) (p m : ℕ) (h : List ℕ) {P : A → Type 0} → ((r s : A) → P r → P s → r ≡ s)
+    → (r s : Result A Reason) → FirstFaultOr (Fault unknown b p m h) P r → FirstFaultOr (Fault unknown b p m h) P s → r ≡ s
+value_once unknown b p m h one (Err q) (Err r) x y = ap Err (fault_once unknown b p m h q r x y)
+value_once unknown b p m h one (Err q) (Ok s) x (fine, y) = absurd (fine q x.holds)
+value_once unknown b p m h one (Ok r) (Err q) (fine, x) y = absurd (fine q y.holds)
+value_once unknown b p m h one (Ok r) (Ok s) (f, x) (g, y) = ap Ok (one r s x y)
+
 -- for one goal
-module _ (b : Board) (p m : ℕ) (h : List ℕ) where
-  pub promised_once : (r s : SuitAnswer) → Promised b p m h r → Promised b p m h s → r ≡ s
-  promised_once (Refused q) (Refused r) x y = ap (λ (z : Reason). Refused z) (fault_once ⊥ b p m h q r x y)
-  promised_once (Refused q) (Answered s) x (fine, y) = absurd (fine q x.holds)
-  promised_once (Answered r) (Refused q) (fine, x) y = absurd (fine q y.holds)
-  promised_once (Answered r) (Answered s) (f, x) (g, y) = ap (λ (z : Found). Answered z) (right_once x y)
+pub promised_once : (b : Board) (p m : ℕ) (h : List ℕ) (r s : Result Found Reason) → Promised b p m h r → Promised b p m h s → r ≡ s
+promised_once b p m h = value_once ⊥ b p m h (λ r s. right_once)
 
 -- the index that comes back is one of the lent counts, of which there are as many as the board has kinds
 module _ (unknown : Type 0) (b : Board) (p m : ℕ) (h : List ℕ) (some : 0 < b.kinds) where
@@ -124,8 +125,11 @@ module _ (b : Board) (h : List ℕ) where
   all_once : (r s : List Found) → AllRight b h r → AllRight b h s → r ≡ s
   all_once r s x y = ext_get_or blank r s (x.ten ∙ sym y.ten) (λ g l. right_once (x.each g (omega (arith, x.ten))) (y.each g (omega (arith, x.ten))))
 
-  pub goals_once : (c d : Checked) (r s : List Found) → GoalsPromised b h c r → GoalsPromised b h d s → (c ≡ d) × (r ≡ s)
-  goals_once (Faulty q) (Faulty t) r s (x, e) (y, f) = (ap (λ (z : Reason). Faulty z) (fault_once ⊥ b 0 0 h q t x y), e ∙ sym f)
-  goals_once (Faulty q) Fine r s (x, e) (fine, y) = absurd (fine q x.holds)
-  goals_once Fine (Faulty q) r s (fine, x) (y, e) = absurd (fine q y.holds)
-  goals_once Fine Fine r s (f, x) (g, y) = (refl, all_once r s x y)
+  pub goals_for_once : (r s : Result (List Found) Reason) → GoalsFor b h r → GoalsFor b h s → r ≡ s
+  goals_for_once = value_once ⊥ b 0 0 h all_once
+
+  pub goals_once : (c d : Result (Unit {0}) Reason) (r s : List Found) → GoalsPromised b h c r → GoalsPromised b h d s → (c ≡ d) × (r ≡ s)
+  goals_once (Err q) (Err t) r s (x, e) (y, f) = (ap Err (fault_once ⊥ b 0 0 h q t x y), e ∙ sym f)
+  goals_once (Err q) (Ok done) r s (x, e) (fine, y) = absurd (fine q x.holds)
+  goals_once (Ok done) (Err q) r s (fine, x) (y, e) = absurd (fine q y.holds)
+  goals_once (Ok done) (Ok again) r s (f, x) (g, y) = (refl, all_once r s x y)

@@ -6,11 +6,14 @@ use Prim.Native.Nat.{ℕ, ◌+◌, ◌*◌, ◌^◌, ◌≤◌, ◌<◌}
 use native.Mathlib.Omega.{arith}
 use lib.ListN.{get_or, replicate}
 use lib.Pow.{pow_pos}
+use lib.Dec.{ltb}
+use borrow.Author.Tests.{le-ltb}
 use Rattle.tile.specs.Board.{Board}
 use Rattle.tile.specs.Target.{Built, Target}
 use Rattle.tile.specs.Target.Built.{nothing}
 use Rattle.tile.specs.Answer.{Exactly, Answer}
-use Rattle.tile.specs.Suit.{unfound, Right}
+use Rattle.tile.specs.Suit.{unfound, Right, IsSuit}
+use Rattle.tile.specs.Suit.IsSuit.{of_ranks, of_honours, of_ends}
 use Rattle.tile.specs.Suit.Right.{answer, no_target}
 use Rattle.tile.specs.declared.found.Found.{Found}
 use Rattle.tile.proofs.Counts.{zeros_at}
@@ -69,3 +72,22 @@ module _ {b : Board} where
         exactly_once (λ i q. q) (λ i q. q) a.necessary (exactly_none (λ i l (u, k, x, more). omega (arith, nothing_at k i))),
         exactly_as (λ i (u, k, x, fewer). omega arith) (λ i held. (t, tg, e, omega (arith, nothing_at tg i))) a.unnecessary,
       )
+
+-- ---- the three boards of suits
+
+-- a suit has some kinds, and at most nine
+pub kinds_some : {b : Board} {runs step : ℕ} → IsSuit b runs step → 0 < b.kinds
+kinds_some of_ranks = omega arith
+kinds_some of_honours = omega arith
+kinds_some of_ends = omega arith
+
+pub kinds_few : {b : Board} {runs step : ℕ} → IsSuit b runs step → b.kinds ≤ 9
+kinds_few of_ranks = omega arith
+kinds_few of_honours = omega arith
+kinds_few of_ends = omega arith
+
+-- a sequence may start below a rank
+pub starts_below : {b : Board} {runs step : ℕ} → IsSuit b runs step → (i : ℕ) → ltb i runs ≡ b.starts i
+starts_below of_ranks i = refl
+starts_below of_honours i = le-ltb i 0 (omega arith)
+starts_below of_ends i = le-ltb i 0 (omega arith)

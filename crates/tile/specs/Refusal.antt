@@ -1,6 +1,6 @@
 -- When a suit or a hand is refused, and with which number (01 "Refusal numbers").
 -- Assumes nothing.
-use Rattle.std.specs.Prelude.{◌≡◌, ◌⊎◌, not, List, ℕ, ◌<◌, length, get_or, T}
+use Rattle.std.specs.Prelude.{◌≡◌, ◌⊎◌, not, List, ℕ, ◌<◌, length, get_or, T, Result, Ok, Err}
 use Rattle.tile.specs.Count.{copies, sum_to}
 use Rattle.tile.specs.Board.{Board}
 use Rattle.tile.specs.declared.refusal.Reason.{Reason}
@@ -37,6 +37,11 @@ pub record First (Fault : Reason → Type 0) (r : Reason) : Type 0 where
 -- the condition of no reason holds
 abbrev pub Faultless : (Reason → Type 0) → Type 0
 Faultless Fault = (q : Reason) → Fault q → ⊥
+
+-- what is promised of every entry: the first fault, or a value of which P holds where there is none
+abbrev pub FirstFaultOr : {A : Type 0} → (Reason → Type 0) → (A → Type 0) → Result A Reason → Type 0
+FirstFaultOr Fault P (Err q) = First Fault q
+FirstFaultOr Fault P (Ok r) = Faultless Fault × P r
 
 -- the most melds of a goal, and the most tiles of a hand, which is also the starting bound
 abbrev pub most_melds : ℕ

@@ -1,82 +1,129 @@
 // Where the four suits lie among the 34 counts (01 "Tiles and games", "Merge").
-ghost use Rattle.std.specs.Prelude.{◌≡◌};
+ghost use Rattle.std.specs.Prelude.{◌≡◌, ◌≤◌, ℕ, refl};
+ghost use Rattle.std.proofs.Common.{rules};
 ghost use Rattle.tile.specs.Suits.{place_of};
 
-// A suit's part of the 34 counts.
-#[derive(Clone, Copy)]
+/// A suit's part of the 34 counts.
+#[derive(Clone, Copy, Debug, PartialEq, Eq)]
 pub struct Place {
     pub offset: usize,
     pub length: usize,
 }
 
-#[derive(Clone, Copy)]
+/// One of the four suits of a hand: where its counts lie among the 34.
+pub trait SuitType {
+    // Which suit it is: m is 0, p is 1, s is 2, z is 3.
+    ghost number: { ℕ };
+
+    const OFFSET: usize;
+
+    ghost OFFSET: { ℕ };
+
+    const LENGTH: usize;
+
+    ghost LENGTH: { ℕ };
+
+    fn place() -> Place
+        ensures { result ≡ place_of number }
+    {
+        Place {
+            offset: Self::OFFSET,
+            length: Self::LENGTH,
+        }
+    }
+
+    ghost offset: { OFFSET ≡ (place_of number).offset };
+
+    ghost length: { LENGTH ≡ (place_of number).length };
+
+    // No suit begins beyond the honours.
+    ghost inside: { OFFSET ≤ 27 };
+}
+
+/// m.
+#[derive(Clone, Copy, Debug, PartialEq, Eq)]
 pub struct SuitM;
 
-impl SuitM {
-    pub const OFFSET: usize = 0;
+impl SuitType for SuitM {
+    const OFFSET: usize = 0;
 
-    pub const LENGTH: usize = 9;
+    const LENGTH: usize = 9;
 
-    pub fn place() -> Place
-        ensures { result ≡ place_of 0 }
-    {
-        Place {
-            offset: Self::OFFSET,
-            length: Self::LENGTH,
-        }
-    }
+    ghost number = { 0 };
+
+    ghost OFFSET = { 0 };
+
+    ghost LENGTH = { 9 };
+
+    ghost offset = { refl };
+
+    ghost length = { refl };
+
+    ghost inside = { Prim.search rules };
 }
 
-#[derive(Clone, Copy)]
+/// p.
+#[derive(Clone, Copy, Debug, PartialEq, Eq)]
 pub struct SuitP;
 
-impl SuitP {
-    pub const OFFSET: usize = 9;
+impl SuitType for SuitP {
+    const OFFSET: usize = 9;
 
-    pub const LENGTH: usize = 9;
+    const LENGTH: usize = 9;
 
-    pub fn place() -> Place
-        ensures { result ≡ place_of 1 }
-    {
-        Place {
-            offset: Self::OFFSET,
-            length: Self::LENGTH,
-        }
-    }
+    ghost number = { 1 };
+
+    ghost OFFSET = { 9 };
+
+    ghost LENGTH = { 9 };
+
+    ghost offset = { refl };
+
+    ghost length = { refl };
+
+    ghost inside = { Prim.search rules };
 }
 
-#[derive(Clone, Copy)]
+/// s.
+#[derive(Clone, Copy, Debug, PartialEq, Eq)]
 pub struct SuitS;
 
-impl SuitS {
-    pub const OFFSET: usize = 18;
+impl SuitType for SuitS {
+    const OFFSET: usize = 18;
 
-    pub const LENGTH: usize = 9;
+    const LENGTH: usize = 9;
 
-    pub fn place() -> Place
-        ensures { result ≡ place_of 2 }
-    {
-        Place {
-            offset: Self::OFFSET,
-            length: Self::LENGTH,
-        }
-    }
+    ghost number = { 2 };
+
+    ghost OFFSET = { 18 };
+
+    ghost LENGTH = { 9 };
+
+    ghost offset = { refl };
+
+    ghost length = { refl };
+
+    ghost inside = { Prim.search rules };
 }
 
-#[derive(Clone, Copy)]
+/// z.
+#[derive(Clone, Copy, Debug, PartialEq, Eq)]
 pub struct SuitZ;
 
-impl SuitZ {
-    pub const OFFSET: usize = 27;
+impl SuitType for SuitZ {
+    const OFFSET: usize = 27;
 
-    pub const LENGTH: usize = 7;
+    const LENGTH: usize = 7;
 
-    pub fn place() -> Place
-        ensures { result ≡ place_of 3 }
-    {
-        Place {
-            offset: Self::OFFSET,
-            length: Self::LENGTH,
-        }
-    }
+    ghost number = { 3 };
+
+    ghost OFFSET = { 27 };
+
+    ghost LENGTH = { 7 };
+
+    ghost offset = { refl };
+
+    ghost length = { refl };
+
+    ghost inside = { Prim.search rules };
 }

@@ -27,7 +27,7 @@ use Rattle.words.specs.Layout.{Value, Number, Necessary, Unnecessary, seven_word
 use Rattle.words.specs.Limit.{most}
 use Rattle.words.specs.Packing.{value_of, Fits, word_by}
 use Rattle.words.specs.Promise.{seven, PackedFrom}
-use Rattle.words.proofs.Fitting.{within_fits}
+use Rattle.words.proofs.Fitting.{within_fits, set_room}
 use Rattle.words.proofs.Held.{packed}
 use Rattle.words.proofs.Seven.{holder}
 
@@ -55,10 +55,6 @@ where_tested test n v t i u h = leb→le _ _ (implied (test i) (leb n (most v i)
 bound_room : (i : ℕ) → i < 10 → 2 < i / 5 + i % 5 → most_tiles ≤ most Number i
 bound_room i u h = where_tested (λ i. ltb 2 (i / 5 + i % 5)) most_tiles Number tt i u (lt→ltb 2 (i / 5 + i % 5) h)
 
--- for nine kinds, but for goal 0
-set_room : (i : ℕ) → i < 10 → 0 < i → 0x1FF ≤ most Necessary i
-set_room i u h = where_tested (λ i. ltb 0 i) 0x1FF Necessary tt i u (lt→ltb 0 i h)
-
 -- ---- so a right answer fits
 
 module _ {b : Board} (s : Suitable b) where
@@ -71,7 +67,7 @@ module _ {b : Board} (s : Suitable b) where
       ⊎_elim (λ two. let (t, tg) = s.some (i / 5) (i % 5) (omega arith) two in absurd (none t tg))
       (λ more. omega (arith, bound_room i u more, ap (λ (f : Found). f.number) e)) (at_most_or_over (i / 5 + i % 5) 2)
   fits Necessary zero u w = omega (arith, (right_nothing w).1)
-  fits Necessary (suc i) u w = omega (arith, small (right_small w).0, set_room (suc i) u (omega arith))
+  fits Necessary (suc i) u w = omega (arith, small (right_small w).0, set_room i (omega arith))
   fits Unnecessary i u w = small (right_small w).1
 
 pub answers_fit : (s : Suit) (h : List ℕ) (r : List Found) → AllRight (board_of s) h r → Fits seven_words r

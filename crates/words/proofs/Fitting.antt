@@ -3,19 +3,20 @@
 use mathlib.Core.Path.{◌≡◌, refl, ap, ◌∙◌}
 use mathlib.Core.Logic.{⊎_elim}
 use mathlib.Core.Bool.{Bool, ◌&&◌}
-use mathlib.Core.List.{List, map}
+use mathlib.Core.List.{List, [], ◌∷◌, map}
 use Prim.Native.Nat.{ℕ, zero, suc, ◌^◌, ◌≤◌, ◌<◌}
 use native.Mathlib.Omega.{arith}
 use lib.Dec.{T, eqb, leb, eqb→eq, leb→le, le→leb}
-use lib.ListN.{length, get_or-eq_default}
+use lib.ListN.{length, get_or, get_or-eq_default}
 use lib.Pow.{pow_pos}
+use Rattle.std.specs.List.{list_all, zip}
 use Rattle.tile.specs.Suit.{blank}
 use Rattle.tile.specs.declared.found.Found.{Found}
-use Rattle.tile.proofs.Tests.{at_most_or_over, and_first, and_second, and_both, all_to, all_to_lem}
+use Rattle.tile.proofs.Tests.{at_most_or_over, and_first, and_second, and_both, eq→eqb, all_to, all_to_lem}
 use Rattle.words.specs.Field.{back, filled}
 use Rattle.words.specs.Layout.{Value, Number, Necessary, Unnecessary, Layout}
 use Rattle.words.specs.Packing.{value_of, value_at, Fits}
-use Rattle.words.specs.Limit.{fit_to}
+use Rattle.words.specs.Limit.{numbers, most, within, all_low, all_within}
 
 -- ---- one test for the three values of a goal
 
@@ -26,11 +27,6 @@ pub for_values_lem : (test : Value → Bool) → T (for_values test) → (v : Va
 for_values_lem test t Number = and_first (test Number) (test Necessary && test Unnecessary) t
 for_values_lem test t Necessary = and_first (test Necessary) (test Unnecessary) (and_second (test Number) (test Necessary && test Unnecessary) t)
 for_values_lem test t Unnecessary = and_second (test Necessary) (test Unnecessary) (and_second (test Number) (test Necessary && test Unnecessary) t)
-
-values_for : (test : Value → Bool) → ((v : Value) → T (test v)) → T (for_values test)
-values_for test h =
-    and_both (test Number) (test Necessary && test Unnecessary) (h Number)
-    (and_both (test Necessary) (test Unnecessary) (h Necessary) (h Unnecessary))
 
 -- ---- limits
 
@@ -75,27 +71,55 @@ module _ (m : Value → ℕ → ℕ) (l : Layout) (t : T (meets m l)) (g : List 
 
 -- ---- the test of the code
 
-module _ (m : Value → ℕ → ℕ) (g : List Found) where
-  -- the test of goal i
-  abbrev tested : ℕ → Value → Bool
-  tested i v = leb (value_at v g i) (m v i)
+module _ {A B : Type 0} (test : A × B → Bool) (a : A) (b : B) where
+  -- two lists pass side by side exactly where they do at each place
+  told : (xs : List A) (ys : List B) → T (list_all test (zip xs ys))
+      → (i : ℕ) → i < length xs → i < length ys → T (test (get_or xs i a, get_or ys i b))
+  told [] ys t i u v = absurd (omega arith)
+  told (x ∷ xs) [] t i u v = absurd (omega arith)
+  told (x ∷ xs) (y ∷ ys) t zero u v = and_first (test (x, y)) (list_all test (zip xs ys)) t
+  told (x ∷ xs) (y ∷ ys) t (suc i) u v = told xs ys (and_second (test (x, y)) (list_all test (zip xs ys)) t) i (omega arith) (omega arith)
 
-  told : (n : ℕ) → T (fit_to m n g) → (i : ℕ) → i < n → Within m g i
-  told zero t i u = absurd (omega arith)
-  told (suc n) t i u =
-      ⊎_elim (λ p. let e : n ≡ i = omega arith in rw (← e) here) (λ u. told n (and_second (for_values (tested n)) (fit_to m n g) t) i u) (at_most_or_over n i)
+  tells : (xs : List A) (ys : List B) → ((i : ℕ) → i < length xs → i < length ys → T (test (get_or xs i a, get_or ys i b)))
+      → T (list_all test (zip xs ys))
+  tells [] ys h = tt
+  tells (x ∷ xs) [] h = tt
+  tells (x ∷ xs) (y ∷ ys) h =
+      and_both (test (x, y)) (list_all test (zip xs ys)) (h zero (omega arith) (omega arith)) (tells xs ys (λ i u v. h (suc i) (omega arith) (omega arith)))
+
+-- the test of a goal beside its number's limit
+abbrev low : Found × ℕ → Bool
+low t = within t.0 t.1 0x1FF 0x1FF
+
+-- the limit of a necessary set is nine kinds, but for goal 0
+set_most : (i : ℕ) → i < 10 → most Necessary i ≤ 0x1FF
+set_most i u = leb→le _ _ (all_to_lem 10 (λ i. leb (most Necessary i) 0x1FF) tt i u)
+
+pub set_room : (i : ℕ) → i < 9 → 0x1FF ≤ most Necessary (suc i)
+set_room i u = leb→le _ _ (all_to_lem 9 (λ i. leb 0x1FF (most Necessary (suc i))) tt i u)
+
+module _ (g : List Found) (ten : length g ≡ 10) where
+  pub test_within : T (all_within g) → (i : ℕ) → i < 10 → Within most g i
+  test_within t i u = record { each = each i u }
     where
-      here : Within m g n
-      here = record { each = λ v. leb→le _ _ (for_values_lem (tested n) (and_first (for_values (tested n)) (fit_to m n g) t) v) }
+      tests : (i : ℕ) → i < 10 → T (low (get_or g i blank, get_or numbers i 0))
+      tests i u = told low blank 0 g numbers (and_second (eqb (value_at Necessary g 0) 0) (all_low g) t) i (omega arith) u
 
-  tells : (n : ℕ) → ((i : ℕ) → i < n → Within m g i) → T (fit_to m n g)
-  tells zero w = tt
-  tells (suc n) w =
-      and_both (for_values (tested n)) (fit_to m n g) (values_for (tested n) (λ v. le→leb _ _ ((w n (omega arith)).each v)))
-      (tells n (λ i u. w i (omega arith)))
+      sets : (i : ℕ) → i < 10 → T (leb (value_at Necessary g i) 0x1FF && leb (value_at Unnecessary g i) 0x1FF)
+      sets i u = and_second (leb (value_at Number g i) (most Number i)) _ (tests i u)
 
-pub test_fits : (m : Value → ℕ → ℕ) (l : Layout) → T (meets m l) → (g : List Found) → length g ≡ l.goals → T (fit_to m l.goals g) → Fits l g
-test_fits m l t g e h = within_fits m l t g e (told m g l.goals h)
+      each : (i : ℕ) → i < 10 → (v : Value) → value_at v g i ≤ most v i
+      each i u Number = leb→le _ _ (and_first (leb (value_at Number g i) (most Number i)) _ (tests i u))
+      each zero u Necessary = omega (arith, eqb→eq _ _ (and_first (eqb (value_at Necessary g 0) 0) (all_low g) t))
+      each (suc i) u Necessary = omega (arith, leb→le _ _ (and_first (leb (value_at Necessary g (suc i)) 0x1FF) _ (sets (suc i) u)), set_room i (omega arith))
+      each i u Unnecessary = leb→le _ _ (and_second (leb (value_at Necessary g i) 0x1FF) _ (sets i u))
 
-pub fits_test : (m : Value → ℕ → ℕ) (l : Layout) → T (meets m l) → (g : List Found) → Fits l g → T (fit_to m l.goals g)
-fits_test m l t g f = tells m g l.goals (fits_within m l t g f)
+  pub within_test : ((i : ℕ) → i < 10 → Within most g i) → T (all_within g)
+  within_test w =
+      and_both (eqb (value_at Necessary g 0) 0) (all_low g) (eq→eqb _ 0 (omega (arith, (w 0 (omega arith)).each Necessary)))
+      (tells low blank 0 g numbers (λ i u v. passes i v))
+    where
+      passes : (i : ℕ) → i < 10 → T (low (get_or g i blank, get_or numbers i 0))
+      passes i u =
+          and_both (leb (value_at Number g i) (most Number i)) _ (le→leb _ _ ((w i u).each Number))
+          (and_both (leb (value_at Necessary g i) 0x1FF) _ (le→leb _ _ (omega (arith, (w i u).each Necessary, set_most i u))) (le→leb _ _ ((w i u).each Unnecessary)))

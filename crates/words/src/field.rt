@@ -1,59 +1,71 @@
 // Fields: bits taken from a word, and bits put into one.
-ghost use Rattle.std.specs.Prelude.{◌≡◌, ◌+◌, ◌*◌, ◌^◌, ◌<◌, ◌≤◌};
+ghost use Rattle.std.specs.Prelude.{◌≡◌, ◌+◌, ◌*◌, ◌%◌, ◌^◌, ◌≤◌};
 ghost use Rattle.words.specs.Field.{bits};
 ghost use Rattle.words.specs.Code.{alone, split};
 
-// `width` bits of a word, from bit `low` on, put up to bit `shift`.
-pub(crate) fn moved(word: u32, low: u32, width: u32, shift: u32) -> u32
-    requires { (low < 32) × (shift < 32) × (width < 32) × (width + shift ≤ 32) }
-    ensures { result ≡ bits word low width * 2 ^ shift }
-{
-    ((word >> low) & ((1 << width) - 1)) << shift
+// `width` bits of a word, from bit `shift` on. None is wider than a set of nine kinds.
+#[derive(Clone, Copy)]
+pub(crate) struct Field {
+    shift: u32,
+    width: u32,
+    ghost inside: { shift + width ≤ 32 },
+    ghost some: { 1 ≤ width },
+    ghost narrow: { width ≤ 9 },
 }
 
-// A number read from a word; it has fewer than eight bits.
-pub(crate) fn number(word: u32, low: u32, width: u32) -> u8
-    requires { (low < 32) × (width < 8) }
-    ensures { result ≡ alone word low width }
-{
-    moved(word, low, width, 0) as u8
-}
+impl Field {
+    pub(crate) const fn new(shift: u32, width: u32) -> Field
+        requires inside { shift + width ≤ 32 }
+        requires some { 1 ≤ width }
+        requires narrow { width ≤ 9 }
+        ensures shift { result.shift ≡ shift }
+        ensures width { result.width ≡ width }
+    {
+        Field { shift, width }
+    }
 
-// A set of nine kinds read from a word.
-pub(crate) fn set(word: u32, low: u32) -> u16
-    requires { low < 32 }
-    ensures { result ≡ alone word low 9 }
-{
-    moved(word, low, 9, 0) as u16
+    // The field of a whole set.
+    pub(crate) const fn set(shift: u32) -> Field
+        requires inside { shift ≤ 23 }
+        ensures shift { result.shift ≡ shift }
+        ensures width { result.width ≡ 9 }
+    {
+        Field::new(shift, 9)
+    }
+
+    // As many bits as it has, from the lowest on.
+    fn cut(self, bits: u32) -> u32
+        ensures { result ≡ bits % 2 ^ self.width }
+    {
+        bits & ((1 << self.width) - 1)
+    }
+
+    // What stands in it.
+    pub(crate) fn read(self, word: u32) -> u16
+        ensures { result ≡ alone word self.shift self.width }
+    {
+        self.cut(word >> self.shift) as u16
+    }
+
+    // The same of a number, which has fewer bits.
+    pub(crate) fn number(self, word: u32) -> u8
+        requires { self.width ≤ 8 }
+        ensures { result ≡ alone word self.shift self.width }
+    {
+        self.read(word) as u8
+    }
+
+    // The lowest bits of a value, put into it.
+    pub(crate) fn put(self, value: u16) -> u32
+        ensures { result ≡ bits value 0 self.width * 2 ^ self.shift }
+    {
+        self.cut(value.into()) << self.shift
+    }
 }
 
 // A set read from two words: its low four bits stand at the foot of one, the five above them at the head of the other.
 pub(crate) fn split_set(foot: u32, head: u32) -> u16
     ensures { result ≡ split foot head }
 {
-    (moved(foot, 0, 4, 0) + moved(head, 27, 5, 4)) as u16
-}
-
-// The number of a goal, put up to bit `shift`.
-pub(crate) fn number_at(value: u8, shift: u32, width: u32) -> u32
-    requires { (shift < 32) × (width < 32) × (width + shift ≤ 32) }
-    ensures { result ≡ bits value 0 width * 2 ^ shift }
-{
-    moved(value as u32, 0, width, shift)
-}
-
-// The set of a goal, put up to bit `shift`.
-pub(crate) fn set_at(value: u16, shift: u32) -> u32
-    requires { shift < 24 }
-    ensures { result ≡ bits value 0 9 * 2 ^ shift }
-{
-    moved(value as u32, 0, 9, shift)
-}
-
-// A piece of the set of a goal, `width` bits from bit `low` on, put up to bit `shift`.
-pub(crate) fn piece_at(value: u16, low: u32, shift: u32, width: u32) -> u32
-    requires { (low < 32) × (shift < 32) × (width < 32) × (width + shift ≤ 32) }
-    ensures { result ≡ bits value low width * 2 ^ shift }
-{
-    moved(value as u32, low, width, shift)
+    Field::new(0, 4).read(foot) + (Field::new(27, 5).read(head) << 4)
 }

@@ -1,40 +1,26 @@
 // Whether values fit their fields (01's refusal 9).
 ghost use Rattle.std.specs.Prelude.{◌≡◌};
-ghost use Rattle.words.specs.Limit.{most, within, fit_to};
+ghost use Rattle.words.specs.Limit.{all_low, all_within};
 
 use tile::found::Found;
-
-const GOALS: usize = 10;
 
 // All nine kinds: no set is larger.
 const ALL: u16 = 0x1FF;
 
-// The most that each goal's fields hold. The number and the necessary set of goal 0 have none.
+// The most that each goal's number may be. That of goal 0 has no field.
 const NUMBERS: [u8; 10] = [0, 3, 7, 15, 15, 3, 7, 15, 15, 15];
 
-const NECESSARY: [u16; 10] = [0, ALL, ALL, ALL, ALL, ALL, ALL, ALL, ALL, ALL];
-
-fn is_within(goal: Found, number: u8, necessary: u16, unnecessary: u16) -> bool
-    ensures { result ≡ within goal number necessary unnecessary }
+// But for goal 0's necessary set, which has no field either, and is tested by itself.
+fn all_low(goals: [Found; 10]) -> bool
+    ensures { result ≡ all_low goals }
 {
-    if goal.number > number {
-        return false;
-    }
-    if goal.necessary > necessary {
-        return false;
-    }
-    goal.unnecessary <= unnecessary
+    goals.iter().zip(NUMBERS.iter()).all(|(goal, most)| {
+        goal.number <= *most && goal.necessary <= ALL && goal.unnecessary <= ALL
+    })
 }
 
 pub(crate) fn all_fit(goals: [Found; 10]) -> bool
-    ensures { result ≡ fit_to most 10 goals }
+    ensures { result ≡ all_within goals }
 {
-    let mut goal = GOALS;
-    while goal > 0 {
-        goal -= 1;
-        if !is_within(goals[goal], NUMBERS[goal], NECESSARY[goal], ALL) {
-            return false;
-        }
-    }
-    true
+    goals[0].necessary == 0 && all_low(goals)
 }

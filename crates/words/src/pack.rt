@@ -5,7 +5,7 @@ ghost use Rattle.words.specs.Packing.{word_by, first_of};
 ghost use Rattle.words.specs.Promise.{seven, PackedFrom};
 ghost use Rattle.words.specs.Code.{three_sets};
 
-use crate::field::{number_at, piece_at, set_at};
+use crate::field::Field;
 use crate::limit::all_fit;
 use crate::packed::{Packed, Words};
 use tile::found::Found;
@@ -13,25 +13,26 @@ use tile::found::Found;
 // 01's number for what cannot be packed.
 const UNFIT: u8 = 9;
 
+// Each word is a part of 01's layout, field by field; alike as some are, 01 fixes them apart.
 fn number_word(goals: [Found; 10]) -> u32
     ensures { result ≡ word_by seven_words goals Number 0 }
 {
-    number_at(goals[1].number, 0, 2)
-        + number_at(goals[2].number, 2, 3)
-        + number_at(goals[3].number, 5, 4)
-        + number_at(goals[4].number, 9, 4)
-        + number_at(goals[5].number, 13, 2)
-        + number_at(goals[6].number, 15, 3)
-        + number_at(goals[7].number, 18, 4)
-        + number_at(goals[8].number, 22, 4)
-        + number_at(goals[9].number, 26, 4)
+    Field::new(0, 2).put(goals[1].number.into())
+        + Field::new(2, 3).put(goals[2].number.into())
+        + Field::new(5, 4).put(goals[3].number.into())
+        + Field::new(9, 4).put(goals[4].number.into())
+        + Field::new(13, 2).put(goals[5].number.into())
+        + Field::new(15, 3).put(goals[6].number.into())
+        + Field::new(18, 4).put(goals[7].number.into())
+        + Field::new(22, 4).put(goals[8].number.into())
+        + Field::new(26, 4).put(goals[9].number.into())
 }
 
 // Three sets, one above the other.
 fn three_sets(a: u16, b: u16, c: u16) -> u32
     ensures { result ≡ three_sets a b c }
 {
-    set_at(a, 0) + set_at(b, 9) + set_at(c, 18)
+    Field::set(0).put(a) + Field::set(9).put(b) + Field::set(18).put(c)
 }
 
 fn necessary_words(goals: [Found; 10]) -> [u32; 3]
@@ -48,19 +49,19 @@ fn necessary_words(goals: [Found; 10]) -> [u32; 3]
 fn unnecessary_word_0(goals: [Found; 10]) -> u32
     ensures { result ≡ word_by seven_words goals Unnecessary 0 }
 {
-    set_at(goals[0].unnecessary, 0)
-        + set_at(goals[1].unnecessary, 9)
-        + set_at(goals[2].unnecessary, 18)
-        + piece_at(goals[3].unnecessary, 4, 27, 5)
+    Field::set(0).put(goals[0].unnecessary)
+        + Field::set(9).put(goals[1].unnecessary)
+        + Field::set(18).put(goals[2].unnecessary)
+        + Field::new(27, 5).put(goals[3].unnecessary >> 4)
 }
 
 fn unnecessary_word_1(goals: [Found; 10]) -> u32
     ensures { result ≡ word_by seven_words goals Unnecessary 1 }
 {
-    piece_at(goals[3].unnecessary, 0, 0, 4)
-        + set_at(goals[4].unnecessary, 4)
-        + set_at(goals[5].unnecessary, 13)
-        + set_at(goals[6].unnecessary, 22)
+    Field::new(0, 4).put(goals[3].unnecessary)
+        + Field::set(4).put(goals[4].unnecessary)
+        + Field::set(13).put(goals[5].unnecessary)
+        + Field::set(22).put(goals[6].unnecessary)
 }
 
 fn unnecessary_words(goals: [Found; 10]) -> [u32; 3]
@@ -87,6 +88,7 @@ fn words_of(goals: [Found; 10]) -> Words
     }
 }
 
+/// Code 0 and the words; or code 9, exactly where a value is larger than its field.
 pub fn pack(goals: [Found; 10]) -> Packed
     ensures { PackedFrom goals result }
 {
@@ -98,10 +100,6 @@ pub fn pack(goals: [Found; 10]) -> Packed
     }
     Packed {
         code: UNFIT,
-        words: Words {
-            number: 0,
-            necessary: [0; 3],
-            unnecessary: [0; 3],
-        },
+        words: Words::default(),
     }
 }

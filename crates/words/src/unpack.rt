@@ -6,24 +6,26 @@ ghost use Rattle.words.specs.Packing.{first_of};
 ghost use Rattle.words.specs.Promise.{goals_of};
 ghost use Rattle.words.specs.Code.{goals_from};
 
-use crate::field::{number, set, split_set};
+use crate::field::{Field, split_set};
 use crate::packed::Words;
+use std::array;
 use tile::found::Found;
 
+// Each list is a part of 01's layout, field by field; alike as two of them are, 01 fixes them apart.
 fn numbers(word: u32) -> [u8; 10]
     ensures { result ≡ first_of 10 (made (map back (ten_goals Number)) (λ j. get_or (word ∷ []) j 0)) }
 {
     [
         0,
-        number(word, 0, 2),
-        number(word, 2, 3),
-        number(word, 5, 4),
-        number(word, 9, 4),
-        number(word, 13, 2),
-        number(word, 15, 3),
-        number(word, 18, 4),
-        number(word, 22, 4),
-        number(word, 26, 4),
+        Field::new(0, 2).number(word),
+        Field::new(2, 3).number(word),
+        Field::new(5, 4).number(word),
+        Field::new(9, 4).number(word),
+        Field::new(13, 2).number(word),
+        Field::new(15, 3).number(word),
+        Field::new(18, 4).number(word),
+        Field::new(22, 4).number(word),
+        Field::new(26, 4).number(word),
     ]
 }
 
@@ -32,15 +34,15 @@ fn necessary_sets(words: [u32; 3]) -> [u16; 10]
 {
     [
         0,
-        set(words[0], 0),
-        set(words[0], 9),
-        set(words[0], 18),
-        set(words[1], 0),
-        set(words[1], 9),
-        set(words[1], 18),
-        set(words[2], 0),
-        set(words[2], 9),
-        set(words[2], 18),
+        Field::set(0).read(words[0]),
+        Field::set(9).read(words[0]),
+        Field::set(18).read(words[0]),
+        Field::set(0).read(words[1]),
+        Field::set(9).read(words[1]),
+        Field::set(18).read(words[1]),
+        Field::set(0).read(words[2]),
+        Field::set(9).read(words[2]),
+        Field::set(18).read(words[2]),
     ]
 }
 
@@ -48,47 +50,37 @@ fn unnecessary_sets(words: [u32; 3]) -> [u16; 10]
     ensures { result ≡ first_of 10 (made (map back (ten_goals Unnecessary)) (λ j. get_or words j 0)) }
 {
     [
-        set(words[0], 0),
-        set(words[0], 9),
-        set(words[0], 18),
+        Field::set(0).read(words[0]),
+        Field::set(9).read(words[0]),
+        Field::set(18).read(words[0]),
         split_set(words[1], words[0]),
-        set(words[1], 4),
-        set(words[1], 13),
-        set(words[1], 22),
-        set(words[2], 0),
-        set(words[2], 9),
-        set(words[2], 18),
+        Field::set(4).read(words[1]),
+        Field::set(13).read(words[1]),
+        Field::set(22).read(words[1]),
+        Field::set(0).read(words[2]),
+        Field::set(9).read(words[2]),
+        Field::set(18).read(words[2]),
     ]
 }
 
+// Three lists with one index, since each is read from words of its own.
 fn ten_goals(numbers: [u8; 10], necessary: [u16; 10], unnecessary: [u16; 10]) -> [Found; 10]
     ensures { result ≡ goals_from numbers necessary unnecessary }
 {
-    let mut goals = [Found {
-        number: 0,
-        necessary: 0,
-        unnecessary: 0,
-    }; 10];
-    let mut goal: usize = 0;
-    while goal < 10 {
-        goals[goal] = Found {
-            number: numbers[goal],
-            necessary: necessary[goal],
-            unnecessary: unnecessary[goal],
-        };
-        goal += 1;
-    }
-    goals
+    array::from_fn(|goal| Found {
+        number: numbers[goal],
+        necessary: necessary[goal],
+        unnecessary: unnecessary[goal],
+    })
 }
 
+/// The goals that the words say, whatever they are: bits without a field are not read.
 pub fn unpack(words: Words) -> [Found; 10]
     ensures { result ≡ goals_of words }
 {
-    let n = words.necessary;
-    let u = words.unnecessary;
     ten_goals(
         numbers(words.number),
-        necessary_sets(n),
-        unnecessary_sets(u),
+        necessary_sets(words.necessary),
+        unnecessary_sets(words.unnecessary),
     )
 }
