@@ -40,7 +40,7 @@ pub trait SuitType {
     ghost inside: { OFFSET ≤ 27 };
 }
 
-/// m.
+/// m: the first nine of the 34 counts.
 #[derive(Clone, Copy, Debug, PartialEq, Eq)]
 pub struct SuitM;
 
@@ -62,7 +62,7 @@ impl SuitType for SuitM {
     ghost inside = { Prim.search rules };
 }
 
-/// p.
+/// p: the nine counts behind those of m.
 #[derive(Clone, Copy, Debug, PartialEq, Eq)]
 pub struct SuitP;
 
@@ -84,7 +84,7 @@ impl SuitType for SuitP {
     ghost inside = { Prim.search rules };
 }
 
-/// s.
+/// s: the nine counts behind those of p.
 #[derive(Clone, Copy, Debug, PartialEq, Eq)]
 pub struct SuitS;
 
@@ -106,7 +106,7 @@ impl SuitType for SuitS {
     ghost inside = { Prim.search rules };
 }
 
-/// z.
+/// z, the honours: the last seven counts.
 #[derive(Clone, Copy, Debug, PartialEq, Eq)]
 pub struct SuitZ;
 

@@ -7,7 +7,7 @@ use crate::one_suit::{Goals, Suit, SuitGoals};
 use crate::refusal::Reason;
 use crate::suit_tiles::{Ends, Honours, Ranks, SuitTiles};
 
-/// A way to a suit's answers.
+/// A way to a suit's ten goals; code over it is proved once, for all ways.
 pub trait Way {
     /// The answers for the ten goals of a suit. Any counts may be lent.
     fn goals<S: SuitTiles>(counts: &[u8]) -> Result<Goals, Reason>
