@@ -29,12 +29,3 @@ pub trait Replay<const LONG: usize> {
     // So that the room for a question can be lent to the reader: no slice is half of all memory.
     ghost short: { LONG < 4096 };
 }
-
-/// A proved loop has to end: this one counts its questions, to more than are stored.
-pub fn run<const LONG: usize, Q: Replay<LONG>>(rt: HostRuntime) {
-    for _ in 0..1000000 {
-        if Q::turn(&mut rt.stdin(), &mut rt.stdout()).is_err() {
-            break;
-        }
-    }
-}
