@@ -5,6 +5,7 @@ ghost use Rattle.records.specs.Many.{pieces, Filled};
 use crate::reply::reply;
 use hand::way::Way;
 use records::bytes::{ANSWER, HAND};
+use records::put::put;
 
 // Answers all pieces of `hands`, in order, at the start of `out`. The number of bytes written is returned. By index and not by `chunks` beside
 // `chunks_mut`: `Filled` speaks of piece i and place i, and a chain would have to count them again.
@@ -18,7 +19,7 @@ pub(crate) fn answers<W: Way>(hands: &[u8], out: &mut [u8]) -> usize
         let to = (from + HAND).min(hands.len());
         let bytes = reply::<W>(&hands[from..to]);
         let at = i * ANSWER;
-        out[at..at + ANSWER].copy_from_slice(&bytes);
+        put(&mut out[at..at + ANSWER], bytes);
     }
     n * ANSWER
 }
